@@ -1,0 +1,9 @@
+pub mod Limits
+pub mod Order
+pub mod Paths
+pub mod Keyed
+pub mod Names
+pub mod Bytes
+pub mod Tree
+pub mod Apply
+pub mod History

@@ -1,0 +1,74 @@
+use crate::ids::FragId;
+use crate::lists::{ByteList, FragList, LenList};
+use crate::nodes::Class;
+use thiserror::Error;
+
+/// What is asked of a storage server.
+#[derive(Drop)]
+pub enum Request {
+    Store {
+        id: FragId,
+        bytes: ByteList,
+        class: Class,
+    },
+    Append {
+        id: FragId,
+        place: u32,
+        bytes: ByteList,
+    },
+    /// Stores the parity of a stripe, or replaces it: the length that it covers of each share, and its bytes.
+    Parity {
+        id: FragId,
+        lengths: LenList,
+        bytes: ByteList,
+        class: Class,
+    },
+    Retrieve {
+        id: FragId,
+        place: u32,
+        len: u32,
+    },
+    Delete {
+        id: FragId,
+    },
+    /// The least 256 names of fragments above this one.
+    Identify {
+        after: Option<FragId>,
+    },
+    Fence {
+        generation: u64,
+    },
+}
+
+/// Why a storage server refuses a request.
+#[derive(Clone, Copy, Debug, PartialEq, Eq, Error)]
+pub enum StoreFault {
+    #[error("no such fragment")]
+    NoFragment,
+    #[error("the fragment exists")]
+    Exists,
+    #[error("the fragment has {len} bytes")]
+    Offset { len: u32 },
+    #[error("the fragment has only {len} bytes")]
+    Short { len: u32 },
+    #[error("{free} slots are free")]
+    NoSlot { free: u32 },
+    #[error("the platter stopped")]
+    Stopped,
+    #[error("the fence is at generation {now}")]
+    OldGeneration { now: u64 },
+    #[error("out of memory")]
+    NoMemory,
+}
+
+/// What a storage server answers.
+#[derive(Drop)]
+pub enum Response {
+    Done,
+    Bytes(ByteList),
+    Parity { lengths: LenList, bytes: ByteList },
+    Ids(FragList),
+    Refused(StoreFault),
+    Down,
+    Blank,
+}

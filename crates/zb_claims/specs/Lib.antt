@@ -1,0 +1,12 @@
+pub mod Reading
+pub mod Points
+pub mod Fits
+pub mod Text
+pub mod Script
+pub mod First
+pub mod Runs
+pub mod Reasons
+pub mod Need
+pub mod Ahead
+pub mod Headline
+pub mod Rows

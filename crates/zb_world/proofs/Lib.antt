@@ -1,0 +1,5 @@
+pub mod Appending
+pub mod Asking
+pub mod More
+pub mod Calls
+pub mod Steps

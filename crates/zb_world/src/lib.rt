@@ -1,0 +1,2 @@
+//! The world: all nodes of a system, the calls that they were given, and the lines that answer them.
+#![tactic(auto)]

@@ -80,3 +80,62 @@ pub fn tree(alloc: Global, tree: &TreeList) -> Mem<ByteList>
     }
     Ok(ByteList::of(out))
 }
+
+#[cfg(test)]
+mod tests {
+    use super::*;
+    use std::test::Fail;
+    use zb_types::{Fid, Name, NameList, Path, Reply, Said};
+
+    #[test]
+    fn lines_have_their_texts(rt: HostRuntime) -> Result<(), Fail> {
+        let alloc = rt.alloc();
+        let bytes = ByteList::from_slice(alloc, b"a\"\n\xff ~")?;
+        let line = Outcome::Call {
+            client: 2,
+            number: 10,
+            said: Said::Reply(Reply::Bytes(bytes)),
+        };
+        let text = outcome(alloc, &line)?;
+        assert_eq!(rt;
+            text.slice(),
+            b"c2 10 bytes \"a\\x22\\x0a\\xff ~\"\n".as_slice()
+        );
+
+        let mut names = NameList::new(alloc)?;
+        names.push(Name::parse(alloc, b"b")?.ok_or("no name")?)?;
+        names.push(Name::parse(alloc, b"cc")?.ok_or("no name")?)?;
+        let line = Outcome::Call {
+            client: 1,
+            number: 3,
+            said: Said::Reply(Reply::Names(names)),
+        };
+        assert_eq!(rt;
+            outcome(alloc, &line)?.slice(),
+            b"c1 3 names b cc\n".as_slice()
+        );
+        Ok(())
+    }
+
+    #[test]
+    fn a_tree_has_a_line_for_each_path(rt: HostRuntime) -> Result<(), Fail> {
+        let alloc = rt.alloc();
+        let mut entries = TreeList::new(alloc)?;
+        entries.push(TreeEntry {
+            path: Path::parse(alloc, b"/d")?.ok_or("no path")?,
+            listed: Listed::Dir,
+        })?;
+        entries.push(TreeEntry {
+            path: Path::parse(alloc, b"/d/a")?.ok_or("no path")?,
+            listed: Listed::File {
+                fid: Fid(1),
+                length: 5,
+            },
+        })?;
+        assert_eq!(rt;
+            tree(alloc, &entries)?.slice(),
+            b"dir /d\nfile /d/a 1 5\n".as_slice()
+        );
+        Ok(())
+    }
+}

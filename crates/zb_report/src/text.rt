@@ -1,4 +1,4 @@
-ghost use Rattle.std.specs.Prelude.{◌≡◌, ◌++◌, ◌<◌, ◌&&◌, ◌||◌, ◌==◌, not, nat_le, OnOk};
+ghost use Rattle.std.specs.Prelude.{◌≡◌, ◌++◌, ◌<◌, ◌&&◌, ◌||◌, ◌==◌, not, nat_le, OnErr, OnOk};
 ghost use Rattle.std.specs.List.{flat_map};
 ghost use Rattle.std.specs.Fmt.{decimal};
 ghost use Rattle.zb_claims.specs.Text.{hex_digit, byte_text, quoted, num, node_text, server_text};
@@ -6,9 +6,10 @@ ghost use Rattle.zb_claims.specs.Text.{hex_digit, byte_text, quoted, num, node_t
 use std::alloc::Global;
 use zb_types::{Mem, NoMemory, Node, ServerId};
 
-/// Adds the decimal digits of a number.
+/// Adds the decimal digits of a number. Without memory nothing is added.
 pub fn number_into(alloc: Global, out: &mut Vec<u8>, n: u64) -> Mem<()>
-    ensures { OnOk result (out.new.items ≡ out.old.items ++ decimal n) }
+    ensures ok { OnOk result (out.new.items ≡ out.old.items ++ decimal n) }
+    ensures err { OnErr result (out.new.items ≡ out.old.items) }
 {
     let digits = n.to_string(alloc)?;
     Ok(out.extend_from_slice(digits.as_bytes())?)

@@ -1,0 +1,141 @@
+ghost use Rattle.std.specs.Prelude.{◌≡◌, ◌++◌, OnOk, IfOk};
+ghost use Rattle.zb_claims.specs.Text.{outcome_text, line_text, listed_text, list_text};
+
+use crate::calls::said_into;
+use crate::events::{answer_into, told_into};
+use crate::jobs::{mended_into, pass_into};
+use crate::text::{client_into, server_into, spaced_into};
+use std::alloc::Global;
+use zb_types::{ByteList, Listed, Mem, NoMemory, Outcome, TreeEntry, TreeList};
+
+fn outcome_into(alloc: Global, out: &mut Vec<u8>, line: &Outcome) -> Mem<()>
+    ensures { OnOk result (out.new.items ≡ out.old.items ++ outcome_text line.now) }
+{
+    match line {
+        Outcome::Call {
+            client,
+            number,
+            said,
+        } => {
+            client_into(alloc, out, *client)?;
+            spaced_into(alloc, out, *number)?;
+            out.push(b' ')?;
+            said_into(alloc, out, said)
+        }
+        Outcome::Clean(pass) => {
+            out.extend_from_slice(b"clean ")?;
+            pass_into(alloc, out, *pass)
+        }
+        Outcome::Rebuild { server, end } => {
+            out.extend_from_slice(b"rebuild ")?;
+            server_into(alloc, out, *server)?;
+            out.push(b' ')?;
+            mended_into(alloc, out, *server, *end)
+        }
+        Outcome::Event { event, answer } => {
+            told_into(alloc, out, *event)?;
+            out.push(b' ')?;
+            answer_into(alloc, out, *answer)
+        }
+    }
+}
+
+/// The text of a line of the report, with its line end.
+pub fn outcome(alloc: Global, line: &Outcome) -> Mem<ByteList>
+    ensures { IfOk result (λ text. text ≡ line_text line.now) }
+{
+    let mut out = Vec::new(alloc);
+    outcome_into(alloc, &mut out, line)?;
+    out.push(b'\n')?;
+    Ok(ByteList::of(out))
+}
+
+fn entry_into(alloc: Global, out: &mut Vec<u8>, entry: &TreeEntry) -> Mem<()>
+    ensures { OnOk result (out.new.items ≡ out.old.items ++ listed_text entry.now.path entry.now.listed) }
+{
+    match entry.listed {
+        Listed::Dir => {
+            out.extend_from_slice(b"dir ")?;
+            out.extend_from_slice(entry.path.slice())?;
+        }
+        Listed::File { fid, length } => {
+            out.extend_from_slice(b"file ")?;
+            out.extend_from_slice(entry.path.slice())?;
+            spaced_into(alloc, out, u64::from(fid.0))?;
+            spaced_into(alloc, out, u64::from(length))?;
+        }
+    }
+    Ok(out.push(b'\n')?)
+}
+
+/// The text of the tree: a line for each path, in their order.
+pub fn tree(alloc: Global, tree: &TreeList) -> Mem<ByteList>
+    ensures { IfOk result (λ text. text ≡ list_text tree.now) }
+{
+    let mut out = Vec::new(alloc);
+    let mut rest = tree.slice();
+    while let [entry, others @ ..] = rest {
+        entry_into(alloc, &mut out, entry)?;
+        rest = others;
+    }
+    Ok(ByteList::of(out))
+}
+
+#[cfg(test)]
+mod tests {
+    use super::*;
+    use std::test::Fail;
+    use zb_types::{Fid, Name, NameList, Path, Reply, Said};
+
+    #[test]
+    fn lines_have_their_texts(rt: HostRuntime) -> Result<(), Fail> {
+        let alloc = rt.alloc();
+        let bytes = ByteList::from_slice(alloc, b"a\"\n\xff ~")?;
+        let line = Outcome::Call {
+            client: 2,
+            number: 10,
+            said: Said::Reply(Reply::Bytes(bytes)),
+        };
+        let text = outcome(alloc, &line)?;
+        assert_eq!(rt;
+            text.slice(),
+            b"c2 10 bytes \"a\\x22\\x0a\\xff ~\"\n".as_slice()
+        );
+
+        let mut names = NameList::new(alloc)?;
+        names.push(Name::parse(alloc, b"b")?.ok_or("no name")?)?;
+        names.push(Name::parse(alloc, b"cc")?.ok_or("no name")?)?;
+        let line = Outcome::Call {
+            client: 1,
+            number: 3,
+            said: Said::Reply(Reply::Names(names)),
+        };
+        assert_eq!(rt;
+            outcome(alloc, &line)?.slice(),
+            b"c1 3 names b cc\n".as_slice()
+        );
+        Ok(())
+    }
+
+    #[test]
+    fn a_tree_has_a_line_for_each_path(rt: HostRuntime) -> Result<(), Fail> {
+        let alloc = rt.alloc();
+        let mut entries = TreeList::new(alloc)?;
+        entries.push(TreeEntry {
+            path: Path::parse(alloc, b"/d")?.ok_or("no path")?,
+            listed: Listed::Dir,
+        })?;
+        entries.push(TreeEntry {
+            path: Path::parse(alloc, b"/d/a")?.ok_or("no path")?,
+            listed: Listed::File {
+                fid: Fid(1),
+                length: 5,
+            },
+        })?;
+        assert_eq!(rt;
+            tree(alloc, &entries)?.slice(),
+            b"dir /d\nfile /d/a 1 5\n".as_slice()
+        );
+        Ok(())
+    }
+}

@@ -1,0 +1,7 @@
+//! What lies outside of the program: the script that it takes and the report that it prints.
+#![tactic(auto)]
+
+mod lent;
+mod outside;
+
+pub use outside::Outside;

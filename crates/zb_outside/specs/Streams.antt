@@ -8,6 +8,11 @@ pub record Streams : Type 0 where
   pub read_faults : ℕ
   pub write_faults : ℕ
 
+-- what moments count of the streams is what is told of them
+pub record AreCounted (now : Standing) (streams : Streams) : Type 0 where
+  pub read_faults : now.read_faults ≡ streams.read_faults
+  pub write_faults : now.write_faults ≡ streams.write_faults
+
 -- each platter is as before
 pub record SparesAll (old new : Standing) : Type 0 where
   pub seen : (q : ℕ) → new.seen q ≡ old.seen q

@@ -16,4 +16,6 @@ impl<O: Outside> Outside for &mut O {
     fn put(&mut self, bytes: &[u8]) -> Result<(), Failed> {
         Outside::put(&mut **self, bytes)
     }
+
+    ghost counted = { λ o. O.counted o.now };
 }

@@ -2,6 +2,8 @@
 #![tactic(auto)]
 
 mod lent;
+mod memory;
 mod outside;
 
+pub use memory::MemOutside;
 pub use outside::Outside;

@@ -1,6 +1,6 @@
 ghost use Rattle.std.specs.Prelude.{◌≡◌, ◌≤◌, Bool, IsTrue, IfOk, OnErr, length};
 ghost use Rattle.zb_outside.specs.Meaning.{Meaning};
-ghost use Rattle.zb_outside.specs.Streams.{Streams, TakeTold, PutTold, Rose};
+ghost use Rattle.zb_outside.specs.Streams.{Streams, AreCounted, TakeTold, PutTold, Rose};
 
 use zb_types::Failed;
 
@@ -34,4 +34,7 @@ pub trait Outside {
         ensures cause { OnErr result (Rose (streams self.old).write_faults (streams self.new).write_faults) }
         ensures later { (streams self.old).write_faults ≤ (streams self.new).write_faults }
         ensures read_faults { (streams self.new).read_faults ≡ (streams self.old).read_faults };
+
+    /// The moments count what the streams count.
+    ghost counted: { (o : Self) → IsTrue tells → AreCounted (meaning o).now (streams o) };
 }

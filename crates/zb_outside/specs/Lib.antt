@@ -1,0 +1,4 @@
+pub mod Meaning
+pub mod MemOutside
+pub mod Memory
+pub mod Streams

@@ -1,0 +1,64 @@
+-- What an outside means: how it stands, and the moments that it has been through.
+use Rattle.std.specs.Prelude.{◌≡◌, ◌⊎◌, ◌≤◌, ℕ, List}
+
+-- one image for each platter that a crash may leave, with what was taken, printed and counted by then
+pub record Moment : Type 0 where
+  pub images : ℕ → List ℕ
+  pub taken : List ℕ
+  pub printed : List ℕ
+  pub faults : ℕ → ℕ
+  pub writes : ℕ → ℕ
+  pub read_faults : ℕ
+  pub write_faults : ℕ
+
+-- how the outside stands at one time: of each platter what a read gives and which images a crash may leave,
+-- the bytes taken and printed, and the counts
+pub record Standing : Type 1 where
+  pub seen : ℕ → List ℕ
+  pub may_leave : ℕ → List ℕ → Type 0
+  pub taken : List ℕ
+  pub printed : List ℕ
+  pub faults : ℕ → ℕ
+  pub writes : ℕ → ℕ
+  pub read_faults : ℕ
+  pub write_faults : ℕ
+
+-- a crash may leave this now
+pub record IsMoment (s : Standing) (m : Moment) : Type 0 where
+  pub images : (p : ℕ) → s.may_leave p (m.images p)
+  pub taken : m.taken ≡ s.taken
+  pub printed : m.printed ≡ s.printed
+  pub faults : (p : ℕ) → m.faults p ≡ s.faults p
+  pub writes : (p : ℕ) → m.writes p ≡ s.writes p
+  pub read_faults : m.read_faults ≡ s.read_faults
+  pub write_faults : m.write_faults ≡ s.write_faults
+
+-- how the outside stands now, and the moments since each time of its clock
+pub record Meaning : Type 1 where
+  pub now : Standing
+  pub clock : ℕ
+  pub since : ℕ → Moment → Type 0
+  -- the moments of now are among them, and are all since now
+  pub counts_now : (t : ℕ) (m : Moment) → t ≤ clock → IsMoment now m → since t m
+  pub only_now : (m : Moment) → since clock m → IsMoment now m
+  -- a crash may leave what a read gives
+  pub seen_now : (p : ℕ) → now.may_leave p (now.seen p)
+
+-- time went from `old` to `new`, and each moment on the way has P
+pub record During (P : Moment → Type 0) (old new : Meaning) : Type 0 where
+  pub later : old.clock ≤ new.clock
+  pub no_other : (t : ℕ) (m : Moment) → t ≤ old.clock → new.since t m → old.since t m ⊎ P m
+
+-- the same images, bytes taken and bytes printed, and counts that are no lower
+pub record Recalls (m n : Moment) : Type 0 where
+  pub images : (p : ℕ) → n.images p ≡ m.images p
+  pub taken : n.taken ≡ m.taken
+  pub printed : n.printed ≡ m.printed
+  pub faults : (p : ℕ) → m.faults p ≤ n.faults p
+  pub writes : (p : ℕ) → m.writes p ≤ n.writes p
+  pub read_faults : m.read_faults ≤ n.read_faults
+  pub write_faults : m.write_faults ≤ n.write_faults
+
+-- no moment is forgotten, but a device that has no memory left to note a count may round it up
+pub record Remembers (old new : Meaning) : Type 0 where
+  pub kept : (t : ℕ) (m : Moment) → t ≤ old.clock → old.since t m → (n : Moment) × new.since t n × Recalls m n

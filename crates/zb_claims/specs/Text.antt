@@ -289,14 +289,26 @@ is_cause geo (Unreachable a b) = is_server geo a && is_server geo b && nat_lt a.
 is_cause geo Down = true
 is_cause geo (NoSpace server) = is_server geo server
 
+abbrev pub AreNames : List (List ℕ) → Type 0
+AreNames names = AllByRecursion (λ name. IsTrue (is_name name)) names
+
 abbrev pub IsReply : Reply → Type 0
 IsReply Done = Unit {0}
 IsReply (Made fid) = fid.0 ≤ max_word
 IsReply (Bytes bytes) = AreBytes bytes
-IsReply (Names names) = AllByRecursion (λ name. IsTrue (is_name name)) names
+IsReply (Names names) = AreNames names
 IsReply Dir = Unit {0}
 IsReply (File fid size) = (fid.0 ≤ max_word) × (size ≤ max_word)
 IsReply (Refused why) = Unit {0}
+
+-- where it is a reply, one that may be told
+abbrev pub IsSaidReply : Said → Type 0
+IsSaidReply (Replied reply) = IsReply reply
+IsSaidReply said = Unit {0}
+
+abbrev pub HasReply : Outcome → Type 0
+HasReply (OfCall client n said) = IsSaidReply said
+HasReply line = Unit {0}
 
 abbrev pub IsSaid : Geometry → Said → Type 0
 IsSaid geo (Replied reply) = IsReply reply

@@ -1,6 +1,6 @@
 ghost use Rattle.std.specs.Prelude.{◌≡◌, ◌++◌, ◌∷◌, OnOk};
 ghost use Rattle.std.specs.List.{flat_map};
-ghost use Rattle.zb_claims.specs.Text.{refusal_text, reply_text, cause_text, said_text};
+ghost use Rattle.zb_claims.specs.Text.{refusal_text, reply_text, cause_text, said_text, AreNames, IsReply, IsSaidReply};
 
 use crate::text::{quoted_into, server_into, spaced_into};
 use std::alloc::Global;
@@ -23,7 +23,8 @@ fn refusal_text(why: Refusal) -> &'static [u8]
 }
 
 fn names_into(out: &mut Vec<u8>, names: &[Name]) -> Mem<()>
-    ensures { OnOk result (out.new.items ≡ out.old.items ++ flat_map (λ name. 32 ∷ name) names.now) }
+    ensures text { OnOk result (out.new.items ≡ out.old.items ++ flat_map (λ name. 32 ∷ name) names.now) }
+    ensures values { OnOk result (AreNames names.now) }
 {
     let mut rest = names;
     while let [name, others @ ..] = rest {
@@ -35,7 +36,8 @@ fn names_into(out: &mut Vec<u8>, names: &[Name]) -> Mem<()>
 }
 
 fn reply_into(alloc: Global, out: &mut Vec<u8>, reply: &Reply) -> Mem<()>
-    ensures { OnOk result (out.new.items ≡ out.old.items ++ reply_text reply.now) }
+    ensures text { OnOk result (out.new.items ≡ out.old.items ++ reply_text reply.now) }
+    ensures values { OnOk result (IsReply reply.now) }
 {
     match reply {
         Reply::Done => Ok(out.extend_from_slice(b"done")?),
@@ -82,7 +84,8 @@ pub fn cause_into(alloc: Global, out: &mut Vec<u8>, cause: Cause) -> Mem<()>
 
 /// Adds what a line says of a call.
 pub fn said_into(alloc: Global, out: &mut Vec<u8>, said: &Said) -> Mem<()>
-    ensures { OnOk result (out.new.items ≡ out.old.items ++ said_text said.now) }
+    ensures text { OnOk result (out.new.items ≡ out.old.items ++ said_text said.now) }
+    ensures values { OnOk result (IsSaidReply said.now) }
 {
     match said {
         Said::Reply(reply) => reply_into(alloc, out, reply),

@@ -1,5 +1,5 @@
 ghost use Rattle.std.specs.Prelude.{◌≡◌, ◌++◌, OnOk, IfOk};
-ghost use Rattle.zb_claims.specs.Text.{outcome_text, line_text, listed_text, list_text};
+ghost use Rattle.zb_claims.specs.Text.{outcome_text, HasReply, line_text, listed_text, list_text};
 
 use crate::calls::said_into;
 use crate::events::{answer_into, told_into};
@@ -9,7 +9,8 @@ use std::alloc::Global;
 use zb_types::{ByteList, Listed, Mem, NoMemory, Outcome, TreeEntry, TreeList};
 
 fn outcome_into(alloc: Global, out: &mut Vec<u8>, line: &Outcome) -> Mem<()>
-    ensures { OnOk result (out.new.items ≡ out.old.items ++ outcome_text line.now) }
+    ensures text { OnOk result (out.new.items ≡ out.old.items ++ outcome_text line.now) }
+    ensures values { OnOk result (HasReply line.now) }
 {
     match line {
         Outcome::Call {
@@ -41,8 +42,11 @@ fn outcome_into(alloc: Global, out: &mut Vec<u8>, line: &Outcome) -> Mem<()>
 }
 
 /// The text of a line of the report, with its line end.
+///
+/// A reply that has a text is one that a report may tell: its bytes, names and numbers are within their limits.
 pub fn outcome(alloc: Global, line: &Outcome) -> Mem<ByteList>
-    ensures { IfOk result (λ text. text ≡ line_text line.now) }
+    ensures text { IfOk result (λ text. text ≡ line_text line.now) }
+    ensures values { OnOk result (HasReply line.now) }
 {
     let mut out = Vec::new(alloc);
     outcome_into(alloc, &mut out, line)?;

@@ -1,7 +1,7 @@
 ghost use Rattle.std.specs.Prelude.{◌≡◌, ◌++◌, ◌<◌, ◌&&◌, ◌||◌, ◌==◌, not, nat_le, OnErr, OnOk};
 ghost use Rattle.std.specs.List.{flat_map};
 ghost use Rattle.std.specs.Fmt.{decimal};
-ghost use Rattle.zb_claims.specs.Text.{hex_digit, byte_text, quoted, num, node_text, server_text};
+ghost use Rattle.zb_claims.specs.Text.{hex_digit, byte_text, quoted, num, node_text, server_text, AreBytes};
 
 use std::alloc::Global;
 use zb_types::{Mem, NoMemory, Node, ServerId};
@@ -51,7 +51,8 @@ fn byte_into(out: &mut Vec<u8>, b: u8) -> Mem<()>
 }
 
 fn bytes_into(out: &mut Vec<u8>, bytes: &[u8]) -> Mem<()>
-    ensures { OnOk result (out.new.items ≡ out.old.items ++ flat_map byte_text bytes.now) }
+    ensures text { OnOk result (out.new.items ≡ out.old.items ++ flat_map byte_text bytes.now) }
+    ensures values { OnOk result (AreBytes bytes.now) }
 {
     let mut rest = bytes;
     while let [b, others @ ..] = rest {
@@ -63,7 +64,8 @@ fn bytes_into(out: &mut Vec<u8>, bytes: &[u8]) -> Mem<()>
 
 /// Adds bytes in quotes.
 pub fn quoted_into(out: &mut Vec<u8>, bytes: &[u8]) -> Mem<()>
-    ensures { OnOk result (out.new.items ≡ out.old.items ++ quoted bytes.now) }
+    ensures text { OnOk result (out.new.items ≡ out.old.items ++ quoted bytes.now) }
+    ensures values { OnOk result (AreBytes bytes.now) }
 {
     out.push(b'"')?;
     bytes_into(out, bytes)?;

@@ -72,6 +72,7 @@ pub record HasNoHeader (g : Grammar) (script : List ℕ) (number : ℕ) : Type 0
   pub rest : List ℕ
   pub text : script ≡ flat_map ended_line heads ++ rest
   pub skipped_first : AllByRecursion g.before heads
+  pub short : length script ≤ max_script + length rest
   pub not_skipped : (bytes after : List ℕ) → g.before bytes → rest ≡ ended_line bytes ++ after → max_script + length after < length script
   pub none : (geo : Geometry) (after : List ℕ) → g.header geo → rest ≡ header_text geo ++ after → max_script + length after < length script
   pub at : number ≡ length heads + 1

@@ -1,6 +1,6 @@
 -- What the calls of an outside in memory tell.
-use Rattle.std.proofs.Common.{◌≡◌, ℕ, ◌+◌, ◌<◌, ◌≤◌, min, Bool, true, false, if◌then◌else◌, List, [], ◌∷◌, ◌++◌, length, take, drop, Result, Ok, Err, refl, sym, ◌∙◌, ap, arith}
-use Rattle.std.proofs.lemmas.List.{append-nil, take-append-drop, take-append-le, take_all, drop_all, length-drop, length-append, nil_from_length}
+use Rattle.std.proofs.Common.{◌≡◌, ℕ, ◌+◌, min, Bool, true, false, if◌then◌else◌, List, [], ◌∷◌, ◌++◌, length, take, drop, Ok, Err, refl, sym, ◌∙◌, ap, arith}
+use Rattle.std.proofs.lemmas.List.{append-nil, take-append-drop, take-append-le, take_all, nil_from_length}
 use Rattle.std.proofs.Math.Seq.{take-add}
 use Rattle.zb_outside.specs.Meaning.{IsMoment, During, Remembers}
 use Rattle.zb_outside.specs.Memory.{meaning_of_tapes, streams_of_tapes, IsKept}

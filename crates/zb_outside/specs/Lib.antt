@@ -1,4 +1,6 @@
+pub mod FileOutside
 pub mod Meaning
 pub mod MemOutside
 pub mod Memory
 pub mod Streams
+pub mod Untold

@@ -1,5 +1,5 @@
 -- What an outside means: how it stands, and the moments that it has been through.
-use Rattle.std.specs.Prelude.{◌≡◌, ◌⊎◌, ◌≤◌, ℕ, List}
+use Rattle.std.specs.Prelude.{◌≡◌, ◌⊎◌, ◌≤◌, ℕ, List, []}
 
 -- one image for each platter that a crash may leave, with what was taken, printed and counted by then
 pub record Moment : Type 0 where
@@ -62,3 +62,14 @@ pub record Recalls (m n : Moment) : Type 0 where
 -- no moment is forgotten, but a device that has no memory left to note a count may round it up
 pub record Remembers (old new : Meaning) : Type 0 where
   pub kept : (t : ℕ) (m : Moment) → t ≤ old.clock → old.since t m → (n : Moment) × new.since t n × Recalls m n
+
+-- nothing was taken, printed or counted, and the platters are empty
+pub record IsFresh (now : Standing) : Type 0 where
+  pub seen : (p : ℕ) → now.seen p ≡ []
+  pub may_leave : (p : ℕ) (image : List ℕ) → now.may_leave p image → image ≡ []
+  pub taken : now.taken ≡ []
+  pub printed : now.printed ≡ []
+  pub faults : (p : ℕ) → now.faults p ≡ 0
+  pub writes : (p : ℕ) → now.writes p ≡ 0
+  pub read_faults : now.read_faults ≡ 0
+  pub write_faults : now.write_faults ≡ 0

@@ -1,6 +1,6 @@
 -- What an outside in memory means, by its streams and how they stood before each call.
-use Rattle.std.specs.Prelude.{◌≡◌, ℕ, ◌+◌, ◌<◌, ◌≤◌, List, [], ◌∷◌, ◌++◌, length, take, drop, slice_index_or, refl}
-use Rattle.std.proofs.Common.{sym, subst, arith, ◌∙◌}
+use Rattle.std.specs.Prelude.{◌≡◌, ℕ, ◌<◌, ◌≤◌, List, [], length, take, drop, slice_index_or, refl}
+use Rattle.std.proofs.Common.{sym, subst, arith}
 use Rattle.std.proofs.lemmas.List.{get_or_past}
 use Rattle.zb_outside.specs.Meaning.{Moment, Standing, IsMoment, Meaning}
 use Rattle.zb_outside.specs.Streams.{Streams}

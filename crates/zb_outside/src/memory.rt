@@ -143,14 +143,13 @@ pub struct MemOutside {
 }
 
 impl MemOutside {
-    ghost use Rattle.zb_outside.specs.Meaning.{Meaning};
+    ghost use Rattle.zb_outside.specs.Meaning.{IsFresh};
     ghost use Rattle.zb_outside.specs.MemOutside.{failing_of, choices_of, calls_of, starved_of};
 
     /// An outside with this script, whose device calls with the numbers `failing` fail. `choices` says what restarts of
     /// platters leave.
     pub fn new(alloc: Global, script: &[u8], choices: &[u8], failing: &[u64]) -> Mem<MemOutside>
-        ensures taken { IfOk result (λ outside. (⟦<MemOutside as Outside>⟧.meaning outside).now.taken ≡ []) }
-        ensures printed { IfOk result (λ outside. (⟦<MemOutside as Outside>⟧.meaning outside).now.printed ≡ []) }
+        ensures fresh { IfOk result (λ outside. IsFresh (⟦<MemOutside as Outside>⟧.meaning outside).now) }
         ensures left { IfOk result (λ outside. (⟦<MemOutside as Outside>⟧.streams outside).left ≡ script.now) }
         ensures read_faults { IfOk result (λ outside. (⟦<MemOutside as Outside>⟧.streams outside).read_faults ≡ 0) }
         ensures write_faults { IfOk result (λ outside. (⟦<MemOutside as Outside>⟧.streams outside).write_faults ≡ 0) }

@@ -1,11 +1,10 @@
 -- What one line more changes.
-use Rattle.std.proofs.Common.{◌≡◌, ℕ, zero, suc, ◌+◌, ◌-◌, ◌<◌, ◌≤◌, Bool, true, false, not, cond, ◌&&◌, ◌||◌, eqb, List, [], ◌∷◌, ◌++◌, length, Option, Some, None, refl, sym, ap, subst, ◌∙◌, append_assoc, arith}
+use Rattle.std.proofs.Common.{◌≡◌, ℕ, Bool, true, false, not, cond, ◌&&◌, ◌||◌, eqb, List, [], ◌∷◌, ◌++◌, refl, sym, ap, subst, ◌∙◌, append_assoc}
 use Rattle.std.specs.Prelude.{filter}
-use Rattle.std.specs.List.{list_any, flat_map, AllByRecursion}
+use Rattle.std.specs.List.{flat_map, AllByRecursion}
 use Rattle.std.proofs.lemmas.List.{append-nil}
 use Rattle.std.proofs.lemmas.List.Folds.{list_any-append}
 use Rattle.std.proofs.lemmas.List.Elements.{filter-append}
-use Rattle.zb_types.specs.declared.calls.Call.{Call}
 use Rattle.zb_types.specs.declared.calls.Reply.{Reply}
 use Rattle.zb_types.specs.declared.history.Did.{Did}
 use Rattle.zb_types.specs.declared.lines.Line.{Line}
@@ -13,10 +12,10 @@ use Rattle.zb_types.specs.declared.lines.Said.{Said}
 use Rattle.zb_types.specs.declared.lines.Said.TheVariants.{Reply as Replied, Buffered}
 use Rattle.zb_types.specs.declared.lines.Outcome.{Outcome}
 use Rattle.zb_types.specs.declared.lines.Outcome.TheVariants.{Call as OfCall}
-use Rattle.zb_types.specs.Tree.{Tree, first_tree}
+use Rattle.zb_types.specs.Tree.{Tree}
 use Rattle.zb_types.specs.Apply.{applied}
-use Rattle.zb_types.specs.History.{tree_from, tree_after, AreReplies}
-use Rattle.zb_claims.specs.Points.{names, ends, has_line, has_final, kept_in, did_of, dids, tree_at}
+use Rattle.zb_types.specs.History.{tree_from, AreReplies}
+use Rattle.zb_claims.specs.Points.{names, ends, has_line, has_final, kept_in, did_of, dids}
 use Rattle.zb_claims.specs.Fits.{FitsNext, FitsFrom}
 use Rattle.zb_world.specs.Sound.{open_numbers}
 

@@ -1,13 +1,11 @@
 -- Which line of a script a line of the report answers, and what a longer script changes of it.
-use Rattle.std.proofs.Common.{◌≡◌, ℕ, zero, suc, ◌+◌, ◌-◌, ◌<◌, ◌≤◌, Bool, true, false, not, cond, ◌&&◌, ◌||◌, eqb, List, [], ◌∷◌, ◌++◌, length, take, Option, Some, None, refl, sym, ap, subst, ◌∙◌, append_assoc, arith}
+use Rattle.std.proofs.Common.{◌≡◌, ℕ, zero, suc, ◌+◌, ◌-◌, ◌<◌, ◌≤◌, true, false, cond, eqb, List, [], ◌∷◌, ◌++◌, length, Option, Some, None, refl, sym, ap, subst, ◌∙◌, arith}
 use Rattle.std.proofs.lemmas.Bool.Decides.{nat_tests}
 use Rattle.std.proofs.lemmas.List.{take-append-le}
-use Rattle.zb_types.specs.declared.calls.Call.{Call}
 use Rattle.zb_types.specs.declared.lines.Line.{Line}
-use Rattle.zb_types.specs.declared.lines.Line.TheVariants.{Call as CallLine}
 use Rattle.zb_types.specs.declared.lines.Outcome.{Outcome}
 use Rattle.zb_claims.specs.Points.{Subject, calls, is_about, asked_from, asked, call_in, call_of, is_begun, all_answered}
-use Rattle.zb_claims.specs.Fits.{is_update_in, are_ended}
+use Rattle.zb_claims.specs.Fits.{are_ended}
 
 -- line `zero` is never asked for
 pub asked_zero : (place : ℕ) (subject : Subject) (script : List Line) → asked_from place subject 0 script ≡ None
@@ -52,15 +50,15 @@ asked_same place subject n m [] more found is le = absurd cc
 asked_same place subject n zero (line ∷ lines) more found is le = asked_zero place subject (line ∷ (lines ++ more)) ∙ sym (asked_zero place subject (line ∷ lines))
 asked_same place subject n (suc m) (line ∷ lines) more found is le =
     elim (is_about subject line) as (λ b. cond b (cond (eqb n 1) (Some (place, line)) (asked_from (suc place) subject (n - 1) lines)) (asked_from (suc place) subject n lines) ≡ Some found
-      → cond b (cond (eqb (suc m) 1) (Some (place, line)) (asked_from (suc place) subject (suc m - 1) (lines ++ more))) (asked_from (suc place) subject (suc m) (lines ++ more))
-      ≡ cond b (cond (eqb (suc m) 1) (Some (place, line)) (asked_from (suc place) subject (suc m - 1) lines)) (asked_from (suc place) subject (suc m) lines)) [
+    → cond b (cond (eqb (suc m) 1) (Some (place, line)) (asked_from (suc place) subject (suc m - 1) (lines ++ more))) (asked_from (suc place) subject (suc m) (lines ++ more))
+    ≡ cond b (cond (eqb (suc m) 1) (Some (place, line)) (asked_from (suc place) subject (suc m - 1) lines)) (asked_from (suc place) subject (suc m) lines)) [
       | true ↦ λ h. at_line m n le h (λ k low e. asked_same (suc place) subject (n - 1) k lines more found e low)
       | false ↦ λ h. asked_same (suc place) subject n (suc m) lines more found h le
     ] is
   where
     at_line : (m n : ℕ) → suc m ≤ n → cond (eqb n 1) (Some (place, line)) (asked_from (suc place) subject (n - 1) lines) ≡ Some found
-      → ((k : ℕ) → k ≤ n - 1 → asked_from (suc place) subject (n - 1) lines ≡ Some found → asked_from (suc place) subject k (lines ++ more) ≡ asked_from (suc place) subject k lines)
-      → cond (eqb (suc m) 1) (Some (place, line)) (asked_from (suc place) subject (suc m - 1) (lines ++ more)) ≡ cond (eqb (suc m) 1) (Some (place, line)) (asked_from (suc place) subject (suc m - 1) lines)
+        → ((k : ℕ) → k ≤ n - 1 → asked_from (suc place) subject (n - 1) lines ≡ Some found → asked_from (suc place) subject k (lines ++ more) ≡ asked_from (suc place) subject k lines)
+        → cond (eqb (suc m) 1) (Some (place, line)) (asked_from (suc place) subject (suc m - 1) (lines ++ more)) ≡ cond (eqb (suc m) 1) (Some (place, line)) (asked_from (suc place) subject (suc m - 1) lines)
     at_line zero n le h rec = refl
     at_line (suc m) n le h rec =
         let low : suc (suc m) - 1 ≤ n - 1 = omega arith in

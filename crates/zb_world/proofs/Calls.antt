@@ -1,16 +1,15 @@
 -- The script of one client's calls, and lines of these calls alone.
-use Rattle.std.proofs.Common.{◌≡◌, ℕ, zero, suc, ◌+◌, ◌-◌, ◌<◌, ◌≤◌, Bool, true, false, not, cond, ◌&&◌, ◌||◌, eqb, List, [], ◌∷◌, ◌++◌, length, map, take, Option, Some, None, refl, sym, ap, subst, ◌∙◌, append_assoc, arith}
-use Rattle.std.specs.Prelude.{filter, slice_get, nat_le}
-use Rattle.std.specs.List.{list_any, AllByRecursion}
+use Rattle.std.proofs.Common.{◌≡◌, ℕ, zero, suc, ◌+◌, ◌-◌, ◌<◌, ◌≤◌, Bool, true, false, not, cond, ◌||◌, eqb, List, [], ◌∷◌, ◌++◌, length, take, Some, refl, sym, ap, ◌∙◌, arith}
+use Rattle.std.specs.Prelude.{slice_get}
+use Rattle.std.specs.List.{AllByRecursion}
 use Rattle.std.proofs.lemmas.Bool.Decides.{nat_tests}
-use Rattle.std.proofs.lemmas.List.{length-take, length-map}
+use Rattle.std.proofs.lemmas.List.{length-take}
 use Rattle.zb_types.specs.declared.calls.Call.{Call}
 use Rattle.zb_types.specs.declared.lines.Line.{Line}
-use Rattle.zb_types.specs.declared.lines.Line.TheVariants.{Call as CallLine}
 use Rattle.zb_types.specs.declared.lines.Said.TheVariants.{Reply as Replied, Buffered, Kept, Failed, Dropped, Unfinished}
 use Rattle.zb_types.specs.declared.lines.Outcome.{Outcome}
 use Rattle.zb_types.specs.declared.lines.Outcome.TheVariants.{Call as OfCall, Clean as OfClean, Rebuild as OfRebuild, Event as OfEvent}
-use Rattle.zb_claims.specs.Points.{Subject, calls, asked_from, asked, asked_of, call_in, call_of, is_begun, all_answered, has_line, has_final, crash_from, is_before_crash}
+use Rattle.zb_claims.specs.Points.{calls, asked_from, asked, asked_of, call_of, is_begun, all_answered, has_line, has_final, crash_from, is_before_crash}
 use Rattle.zb_claims.specs.Fits.{is_update_in, are_ended}
 use Rattle.zb_world.specs.Seen.{line_of, script_of}
 use Rattle.zb_world.specs.Sound.{IsPlain}
@@ -47,7 +46,7 @@ asked_call cs k call is =
     let on : 0 + k ≡ k = omega arith in
     asked_at 0 k cs call is ∙ ap (λ n. Some (n, line_of call)) on
 
-asked_of-script : (cs : List Call) → asked_of (calls 1) (script_of cs) ≡ length cs
+pub asked_of-script : (cs : List Call) → asked_of (calls 1) (script_of cs) ≡ length cs
 asked_of-script [] = refl
 asked_of-script (c ∷ cs) = ap suc (asked_of-script cs)
 

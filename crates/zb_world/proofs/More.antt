@@ -1,12 +1,11 @@
 -- Lines that fit a script fit a longer one, and tell the same history, if none of them is `unfinished`.
-use Rattle.std.proofs.Common.{◌≡◌, ℕ, zero, suc, ◌+◌, ◌-◌, ◌<◌, ◌≤◌, Bool, true, false, not, cond, ◌&&◌, ◌||◌, eqb, List, [], ◌∷◌, ◌++◌, length, take, Option, Some, None, refl, sym, ap, subst, ◌∙◌, append_assoc, arith}
-use Rattle.std.specs.List.{list_any, AllByRecursion}
+use Rattle.std.proofs.Common.{◌≡◌, ℕ, suc, ◌≤◌, Bool, not, ◌||◌, eqb, List, [], ◌∷◌, ◌++◌, length, refl, sym, ap, subst, ◌∙◌, append_assoc, arith}
+use Rattle.std.specs.List.{AllByRecursion}
 use Rattle.std.specs.Prelude.{nat_lt}
 use Rattle.std.proofs.lemmas.List.{append-nil, take-append-le}
 use Rattle.zb_types.specs.declared.nodes.Node.TheVariants.{Manager}
 use Rattle.zb_types.specs.declared.calls.Call.{Call}
 use Rattle.zb_types.specs.declared.calls.Reply.{Reply}
-use Rattle.zb_types.specs.declared.history.Did.{Did}
 use Rattle.zb_types.specs.declared.lines.Line.{Line}
 use Rattle.zb_types.specs.declared.lines.Line.TheVariants.{Call as CallLine}
 use Rattle.zb_types.specs.declared.lines.Said.{Said}
@@ -14,10 +13,10 @@ use Rattle.zb_types.specs.declared.lines.Said.TheVariants.{Reply as Replied, Buf
 use Rattle.zb_types.specs.declared.lines.Outcome.{Outcome}
 use Rattle.zb_types.specs.declared.lines.Outcome.TheVariants.{Call as OfCall, Clean as OfClean, Rebuild as OfRebuild, Event as OfEvent}
 use Rattle.zb_types.specs.Tree.{Tree}
-use Rattle.zb_types.specs.Apply.{is_update, reply_to}
+use Rattle.zb_types.specs.Apply.{reply_to}
 use Rattle.zb_types.specs.History.{tree_after}
-use Rattle.zb_claims.specs.Points.{Subject, calls, subject_of, told_of, asked, call_of, did_of, did_if, dids, tree_at, is_begun, is_before_crash, crash_from, crashes, asked_of}
-use Rattle.zb_claims.specs.Fits.{FitsNext, FitsFrom, FitLines, CallFits, SaidFits, ReplyFits, ReadFits, EventFits}
+use Rattle.zb_claims.specs.Points.{Subject, calls, subject_of, told_of, did_of, did_if, dids, tree_at, is_before_crash, crash_from, crashes, asked_of}
+use Rattle.zb_claims.specs.Fits.{FitsNext, FitsFrom, FitLines, SaidFits, ReadFits, EventFits}
 use Rattle.zb_world.proofs.Appending.{All-push}
 use Rattle.zb_world.proofs.Asking.{Asks, asked_more, asked_within, is_begun_more, call_of_more, are_ended_more}
 

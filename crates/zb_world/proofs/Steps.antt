@@ -1,7 +1,7 @@
 -- What a world does with its calls keeps it sound.
-use Rattle.std.proofs.Common.{◌≡◌, ℕ, zero, suc, ◌+◌, ◌-◌, ◌*◌, ◌^◌, ◌<◌, ◌≤◌, max, Bool, true, false, not, cond, ◌&&◌, ◌||◌, eqb, ltb, List, [], ◌∷◌, ◌++◌, length, take, Option, Some, None, refl, sym, ap, subst, ◌∙◌, append_assoc, arith}
-use Rattle.std.specs.Prelude.{filter, slice_get, nat_lt, nat_le, IsTrue}
-use Rattle.std.specs.List.{AllByRecursion, list_any}
+use Rattle.std.proofs.Common.{◌≡◌, ℕ, zero, suc, ◌+◌, ◌-◌, ◌^◌, ◌<◌, ◌≤◌, max, Bool, true, false, not, cond, ◌||◌, eqb, List, [], ◌∷◌, ◌++◌, length, Option, Some, None, refl, sym, ap, subst, ◌∙◌, append_assoc, arith}
+use Rattle.std.specs.Prelude.{filter, slice_get, nat_le, IsTrue}
+use Rattle.std.specs.List.{AllByRecursion}
 use Rattle.std.proofs.lemmas.Option.{slice_get_within}
 use Rattle.std.proofs.lemmas.Bool.Decides.{nat_tests}
 use Rattle.std.proofs.lemmas.List.{length-append, append-nil, take-append-le, take_all}
@@ -13,7 +13,6 @@ use Rattle.zb_types.specs.declared.calls.Refusal.{Refusal}
 use Rattle.zb_types.specs.declared.history.Did.{Did}
 use Rattle.zb_types.specs.declared.history.Saw.{Saw}
 use Rattle.zb_types.specs.declared.lines.Line.{Line}
-use Rattle.zb_types.specs.declared.lines.Said.{Said}
 use Rattle.zb_types.specs.declared.lines.Said.TheVariants.{Reply as Replied, Buffered}
 use Rattle.zb_types.specs.declared.lines.Outcome.{Outcome}
 use Rattle.zb_types.specs.declared.lines.Outcome.TheVariants.{Call as OfCall}
@@ -21,10 +20,10 @@ use Rattle.zb_types.specs.Limits.{within}
 use Rattle.zb_types.specs.Tree.{Tree, first_tree}
 use Rattle.zb_types.specs.Apply.{is_update, is_bufferable, applied, reply_to, after_refusal, refusal_of}
 use Rattle.zb_types.specs.History.{tree_from, tree_after, AreReplies, IsSeen, IsLegal}
-use Rattle.zb_claims.specs.Points.{calls, has_line, has_final, call_in, call_of, did_of, did_if, dids, tree_at, is_begun}
-use Rattle.zb_claims.specs.Fits.{FitsNext, FitsFrom, FitLines, WasFull, is_next, most_kept}
+use Rattle.zb_claims.specs.Points.{has_line, has_final, call_in, call_of, did_if, dids, tree_at, is_begun}
+use Rattle.zb_claims.specs.Fits.{FitsNext, FitLines, WasFull, is_next}
 use Rattle.zb_claims.specs.Text.{IsOutcome, IsReply}
-use Rattle.zb_world.specs.Seen.{Seen, script_of, line_of, is_up_to, numbers_from, did_by, saw_by}
+use Rattle.zb_world.specs.Seen.{Seen, script_of, is_up_to, numbers_from, did_by, saw_by}
 use Rattle.zb_world.specs.Sound.{IsSound, HistoryFits, CallsInOrder, IsPlain, open_numbers}
 use Rattle.zb_world.proofs.Appending.{All-push, FitsFrom-push, has_line-push, has_final-buffered, has_final-replied, open_numbers-buffered, open_numbers-replied, dids-push, tree_from-append, AreReplies-append}
 use Rattle.zb_world.proofs.More.{FitLines-more, told_more}
@@ -32,7 +31,7 @@ use Rattle.zb_world.proofs.Calls.{script_of-append, asked_call, AreNamed, begun_
 
 -- Numbers.
 
-up_to_true : (top n : ℕ) → 0 < n → n ≤ top → is_up_to top n ≡ true
+pub up_to_true : (top n : ℕ) → 0 < n → n ≤ top → is_up_to top n ≡ true
 up_to_true top n pos le = grind (arith, nat_tests)
 
 up_to_false : (top n : ℕ) → top < n → is_up_to top n ≡ false
@@ -51,7 +50,7 @@ numbers_from-push : (a k : ℕ) → numbers_from a k ++ (a + k) ∷ [] ≡ numbe
 numbers_from-push a zero = ap (λ n. n ∷ []) (omega arith)
 numbers_from-push a (suc k) = ap (λ (ns : List ℕ). a ∷ ns) (ap (λ n. numbers_from (suc a) k ++ n ∷ []) (omega arith) ∙ numbers_from-push (suc a) k)
 
-length-numbers_from : (a k : ℕ) → length (numbers_from a k) ≡ k
+pub length-numbers_from : (a k : ℕ) → length (numbers_from a k) ≡ k
 length-numbers_from a zero = refl
 length-numbers_from a (suc k) = ap suc (length-numbers_from (suc a) k)
 
@@ -70,10 +69,10 @@ filter_first a k = rw (same_number a, filter_above a (suc a) k (omega arith)) re
 
 -- Common parts.
 
-named_up_to : (s : Seen) (k : ℕ) → CallsInOrder s → k ≤ s.lined → AreNamed s.lines k
+pub named_up_to : (s : Seen) (k : ℕ) → CallsInOrder s → k ≤ s.lined → AreNamed s.lines k
 named_up_to s k order le m pos within = order.named m ∙ up_to_true s.lined m pos (omega (arith, within, le))
 
-next_after : (s : Seen) (k : ℕ) → CallsInOrder s → k ≤ s.lined → is_next s.lines 1 (suc k) ≡ true
+pub next_after : (s : Seen) (k : ℕ) → CallsInOrder s → k ≤ s.lined → is_next s.lines 1 (suc k) ≡ true
 next_after s zero order le = refl
 next_after s (suc k) order le =
     let less : suc (suc k) - 1 ≡ suc k = omega arith in
@@ -101,7 +100,7 @@ shown_at s tree sound = sound.shows_history ∙ ap tree_after sound.history_fits
 
 -- One call more.
 
-abbrev with_call : Seen → Call → Seen
+abbrev pub with_call : Seen → Call → Seen
 with_call s call = record s { calls = s.calls ++ call ∷ [] }
 
 get_below : (calls : List Call) (call : Call) (k : ℕ) → k < length calls → slice_get (calls ++ call ∷ []) k ≡ slice_get calls k
@@ -138,8 +137,8 @@ IsSound-call s tree call sound few =
 
 -- The next call is kept.
 
-abbrev with_kept : Seen → Seen
-with_kept s = record s { lines = s.lines ++ OfCall 1 (suc s.lined) Buffered ∷ []; waiting = s.waiting ++ OfCall 1 (suc s.lined) Buffered ∷ []; lined = suc s.lined }
+abbrev pub with_kept : Seen → Seen
+with_kept s = record s { lines = s.lines ++ OfCall 1 (suc s.lined) Buffered ∷ []; lined = suc s.lined }
 
 kept_fits : (s : Seen) (tree : Tree) (call : Call) → IsSound s tree → slice_get s.calls s.lined ≡ Some call → is_bufferable call ≡ true → s.lined - s.done + 1 < 8 → FitsNext true (script_of s.calls) s.lines (OfCall 1 (suc s.lined) Buffered)
 kept_fits s tree call sound is may few =
@@ -181,7 +180,7 @@ IsSound-kept s tree call sound is may idle few =
         answered = λ m. has_final-buffered s.lines m (suc s.lined) ∙ o.answered m;
         named = λ m. has_line-push s.lines m (suc s.lined) Buffered ∙ ap (λ b. b || eqb m (suc s.lined)) (o.named m) ∙ up_to_more s.lined m;
         kept = open_numbers-buffered (suc s.lined) s.lines unanswered ∙ ap (λ (ns : List ℕ). ns ++ suc s.lined ∷ []) o.kept ∙ ap (λ m. numbers_from (suc s.done) (s.lined - s.done) ++ m ∷ []) (sym at)
-          ∙ numbers_from-push (suc s.done) (s.lined - s.done) ∙ ap (numbers_from (suc s.done)) (sym count);
+            ∙ numbers_from-push (suc s.done) (s.lined - s.done) ∙ ap (numbers_from (suc s.done)) (sym count);
         done_first = omega (arith, o.done_first);
         given = omega (arith, given);
         few = o.few;
@@ -204,11 +203,11 @@ pub record Answers (s : Seen) (tree : Tree) (call : Call) (reply : Reply) (due :
   pub within : due ≤ length s.calls
   pub full : (other : Call) → s.lined < due → slice_get s.calls s.lined ≡ Some other → is_bufferable other ≡ true → WasFull s.lines 1 (suc s.lined)
 
-abbrev with_reply : Seen → Call → Reply → ℕ → Seen
+abbrev pub with_reply : Seen → Call → Reply → ℕ → Seen
 with_reply s call reply due = record {
   calls = s.calls;
   lines = s.lines ++ OfCall 1 (suc s.done) (Replied reply) ∷ [];
-  waiting = s.waiting ++ OfCall 1 (suc s.done) (Replied reply) ∷ [];
+  told = s.told;
   done = suc s.done;
   lined = max s.lined (suc s.done);
   due = due;
@@ -233,9 +232,9 @@ reply_fits s tree call reply due sound a =
         earlier = ended_all s.calls s.lines (suc s.done) (λ m pos lt. o.answered m ∙ up_to_true s.done m pos (omega (arith, lt)));
         manager = before_crash (script_of s.calls) s.lines s.done sound.history_fits.plain;
         first = λ fresh may.
-          let above : s.lined < suc s.done = is_up_to_this s.lined (suc s.done) (omega arith) (sym (o.named (suc s.done)) ∙ fresh) in
-          let all : s.lined ≡ s.done = omega (arith, above, o.done_first) in
-          subst (λ n. WasFull s.lines 1 (suc n)) all (a.full call (omega (arith, all, a.at_work)) (ap (slice_get s.calls) all ∙ a.given) may);
+            let above : s.lined < suc s.done = is_up_to_this s.lined (suc s.done) (omega arith) (sym (o.named (suc s.done)) ∙ fresh) in
+            let all : s.lined ≡ s.done = omega (arith, above, o.done_first) in
+            subst (λ n. WasFull s.lines 1 (suc n)) all (a.full call (omega (arith, all, a.at_work)) (ap (slice_get s.calls) all ∙ a.given) may);
         update = λ _. told;
         read = λ _. record {
           front = s.lines;
@@ -315,7 +314,7 @@ legal_more s tree call reply sound same =
     record {
       updates = AreReplies-append first_tree s.updates (did_by (suc s.done) call reply) legal.updates (did_replies (tree_after s.updates) (suc s.done) call reply here);
       reads = All-append (IsSeen (s.updates ++ did_by (suc s.done) call reply)) s.reads (saw_by (suc s.done) (length s.updates) call reply) (all_later s.updates (did_by (suc s.done) call reply) s.reads legal.reads)
-        (saw_is_seen s.updates tree (suc s.done) call reply sound.shows_history same);
+          (saw_is_seen s.updates tree (suc s.done) call reply sound.shows_history same);
     }
 
 told_reply : (s : Seen) (call : Call) (reply : Reply) → HistoryFits s → slice_get s.calls s.done ≡ Some call → s.updates ++ did_by (suc s.done) call reply ≡ dids (script_of s.calls) (s.lines ++ OfCall 1 (suc s.done) (Replied reply) ∷ [])
@@ -339,9 +338,9 @@ reply_order s tree call reply due o a =
       due_next = omega (arith, a.next);
       due_given = a.within;
       full = λ other at_work is may.
-        let kept_one : suc s.done ≤ s.lined = omega (arith, at_work, a.next) in
-        let same : max s.lined (suc s.done) ≡ s.lined = omega (arith, kept_one) in
-        subst (λ k. WasFull (s.lines ++ OfCall 1 (suc s.done) (Replied reply) ∷ []) 1 (suc k)) (sym same)
+          let kept_one : suc s.done ≤ s.lined = omega (arith, at_work, a.next) in
+          let same : max s.lined (suc s.done) ≡ s.lined = omega (arith, kept_one) in
+          subst (λ k. WasFull (s.lines ++ OfCall 1 (suc s.done) (Replied reply) ∷ []) 1 (suc k)) (sym same)
           (later_full s.lines (OfCall 1 (suc s.done) (Replied reply)) (suc s.lined) (a.full other (omega (arith, at_work, same)) (ap (slice_get s.calls) (sym same) ∙ is) may));
     }
   where

@@ -1,2 +1,6 @@
 pub mod Seen
 pub mod Sound
+pub mod World
+pub mod Blocks
+pub mod Files
+pub mod Kept

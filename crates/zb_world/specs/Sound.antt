@@ -1,20 +1,19 @@
 -- A sound world.
-use Rattle.std.specs.Prelude.{◌≡◌, ℕ, suc, ◌+◌, ◌-◌, ◌^◌, ◌<◌, ◌≤◌, true, List, [], ◌∷◌, ◌++◌, map, length, filter, not, Option, Some, slice_get}
+use Rattle.std.specs.Prelude.{◌≡◌, ℕ, suc, ◌+◌, ◌-◌, ◌^◌, ◌<◌, ◌≤◌, true, List, length, filter, not, Some, slice_get}
 use Rattle.std.specs.List.{flat_map, AllByRecursion}
 use Rattle.zb_types.specs.declared.calls.Call.{Call}
-use Rattle.zb_types.specs.declared.history.Did.{Did}
-use Rattle.zb_types.specs.declared.history.Saw.{Saw}
+use Rattle.zb_types.specs.declared.calls.Call.TheVariants.{Write, Read}
 use Rattle.zb_types.specs.declared.geometry.Geometry.{Geometry}
-use Rattle.zb_types.specs.declared.lines.Said.TheVariants.{Reply as Replied, Buffered, Kept, Failed, Dropped, Unfinished}
+use Rattle.zb_types.specs.declared.lines.Said.TheVariants.{Reply as Replied, Buffered}
 use Rattle.zb_types.specs.declared.lines.Outcome.{Outcome}
-use Rattle.zb_types.specs.declared.lines.Outcome.TheVariants.{Call as OfCall, Clean as OfClean, Rebuild as OfRebuild, Event as OfEvent}
+use Rattle.zb_types.specs.declared.lines.Outcome.TheVariants.{Call as OfCall}
 use Rattle.zb_types.specs.Tree.{Tree}
 use Rattle.zb_types.specs.Apply.{is_bufferable}
 use Rattle.zb_types.specs.History.{tree_after, IsLegal}
 use Rattle.zb_claims.specs.Points.{has_line, has_final, kept_in, dids}
 use Rattle.zb_claims.specs.Fits.{FitLines, WasFull}
-use Rattle.zb_claims.specs.Text.{IsOutcome}
-use Rattle.zb_world.specs.Seen.{Seen, script_of, is_up_to, numbers_from}
+use Rattle.zb_claims.specs.Text.{IsOutcome, report_text}
+use Rattle.zb_world.specs.Seen.{Seen, waiting, script_of, is_up_to, numbers_from}
 
 -- the calls that have a `kept` line and no final line
 abbrev pub open_numbers : List Outcome → List ℕ
@@ -34,6 +33,10 @@ pub record HistoryFits (s : Seen) : Type 0 where
   pub plain : AllByRecursion IsPlain s.lines
   pub valid : (geo : Geometry) → AllByRecursion (IsOutcome geo) s.lines
 
+-- where the next call is to be answered, though it could be kept, too many were kept
+abbrev pub NextWasFull : Seen → ℕ → Type 0
+NextWasFull s due = (call : Call) → s.lined < due → slice_get s.calls s.lined ≡ Some call → is_bufferable call ≡ true → WasFull s.lines 1 (suc s.lined)
+
 -- each call is answered, kept, at work or not yet taken, in this order
 pub record CallsInOrder (s : Seen) : Type 0 where
   pub answered : (n : ℕ) → has_final s.lines 1 n ≡ is_up_to s.done n
@@ -44,11 +47,23 @@ pub record CallsInOrder (s : Seen) : Type 0 where
   pub few : length s.calls < 2 ^ 63
   pub due_next : s.due ≤ s.lined + 1
   pub due_given : s.due ≤ length s.calls
-  -- one that could be kept is at work only where too many were kept
-  pub full : (call : Call) → s.lined < s.due → slice_get s.calls s.lined ≡ Some call → is_bufferable call ≡ true → WasFull s.lines 1 (suc s.lined)
+  pub full : NextWasFull s s.due
 
 -- the lines, the calls and the tree that the nodes show agree with one history
 pub record IsSound (s : Seen) (tree : Tree) : Type 0 where
   pub history_fits : HistoryFits s
   pub calls_in_order : CallsInOrder s
   pub shows_history : tree ≡ tree_after s.updates
+
+-- a call within the limits of one write and one read
+abbrev pub IsWithin : Call → Type 0
+IsWithin (Write fid offset bytes) = (1 ≤ length bytes) × (length bytes ≤ 4096)
+IsWithin (Read fid offset len) = (1 ≤ len) × (len ≤ 4096)
+IsWithin call = Unit {0}
+
+-- a sound world, and the text of the lines that wait
+pub record IsKept (s : Seen) (tree : Tree) (text : List ℕ) : Type 0 where
+  pub sound : IsSound s tree
+  pub within : AllByRecursion IsWithin s.calls
+  pub told_first : s.told ≤ length s.lines
+  pub text_waits : text ≡ report_text (waiting s)

@@ -1,2 +1,14 @@
 //! The world: all nodes of a system, the calls that they were given, and the lines that answer them.
 #![tactic(auto)]
+
+mod answers;
+mod blocks;
+mod files;
+mod ledger;
+mod shelf;
+#[cfg(test)]
+mod tests;
+mod world;
+
+pub use answers::{Halt, StartFault, Step};
+pub use world::World;

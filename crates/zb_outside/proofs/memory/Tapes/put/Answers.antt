@@ -1,4 +1,4 @@
-use Rattle.std.proofs.Common.{◌≡◌, ap, ◌∙◌, arith}
+use Rattle.std.proofs.Common.{ap, ◌∙◌, arith}
 use Rattle.zb_outside.specs.declared.memory.Progress.{Progress}
 use Rattle.zb_outside.specs.declared.memory.Tapes.{Tapes}
 use Rattle.zb_outside.proofs.Telling.{Stopped, put_failed, did_put}

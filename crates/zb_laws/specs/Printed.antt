@@ -1,0 +1,39 @@
+-- What a run prints determines its lines.
+use Rattle.std.specs.Prelude.{◌≡◌, ◌≢◌, ℕ, Bool, false, List, [], ◌∷◌, ◌++◌, take, drop, codes, ◌&&◌, ◌||◌, nat_lt}
+use Rattle.std.specs.List.{list_any, list_all, AllByRecursion}
+use Rattle.std.specs.Str.{bytes_eq}
+use Rattle.zb_types.specs.declared.geometry.Geometry.{Geometry}
+use Rattle.zb_types.specs.declared.lines.Outcome.{Outcome}
+use Rattle.zb_claims.specs.Text.{IsOutcome, report_text}
+use Rattle.zb_claims.specs.Script.{Grammar, Row}
+use Rattle.zb_claims.specs.Runs.{TellsTree, EndsSo, RunsScript}
+
+-- a `c` with a digit
+abbrev pub starts_call : List ℕ → Bool
+starts_call text = bytes_eq (take 1 text) (codes "c") && list_all (λ b. nat_lt b 58) (take 1 (drop 1 text))
+
+-- the first letters are those of a line that answers a line of the script
+abbrev pub starts_line : List ℕ → Bool
+starts_line text = starts_call text || list_any (bytes_eq (take 3 text)) (codes "cle" ∷ codes "reb" ∷ codes "cra" ∷ codes "arm" ∷ codes "up " ∷ codes "los" ∷ codes "che" ∷ [])
+
+pub record SameReport (lines others : List Outcome) (tail other : List ℕ) : Type 0 where
+  pub same_lines : lines ≡ others
+  pub same_tail : tail ≡ other
+
+-- lines and a tail that starts otherwise are told apart
+abbrev pub OneReport : Type 0
+OneReport = (geo : Geometry) (lines others : List Outcome) (tail other : List ℕ) → AllByRecursion (IsOutcome geo) lines → AllByRecursion (IsOutcome geo) others → starts_line tail ≡ false → starts_line other ≡ false
+    → report_text lines ++ tail ≡ report_text others ++ other → SameReport lines others tail other
+
+-- what stands behind the lines starts otherwise
+abbrev pub TailsDiffer : Grammar → Type 0
+TailsDiffer g = (bytes : List ℕ) (geo : Geometry) (rows : List Row) (rest : List ℕ) (all : List Outcome) (end : ℕ) (tail : List ℕ) → EndsSo g TellsTree bytes geo rows rest all end tail → starts_line tail ≡ false
+
+pub record SameRun (geo other_geo : Geometry) (all other_all : List Outcome) (tail other_tail : List ℕ) : Type 0 where
+  pub geometry : geo ≡ other_geo
+  pub same_lines : all ≡ other_all
+  pub same_tail : tail ≡ other_tail
+
+-- what a run prints to its end determines its lines
+abbrev pub OneRun : Grammar → Type 0
+OneRun g = (status : ℕ) (bytes printed : List ℕ) → status ≢ 4 → (run other : RunsScript g TellsTree status bytes printed) → SameRun run.geo other.geo run.all other.all run.tail other.tail

@@ -1,0 +1,103 @@
+ghost use Rattle.zb_laws.specs.Texts.{NoFront, FrontLines, SameLines, OneSpelling};
+ghost use Rattle.zb_laws.specs.Readings.{RowsAgree, OneReading, OneStop, HeaderOrNone};
+ghost use Rattle.zb_claims.specs.Script.{whole};
+ghost use Rattle.zb_claims.specs.First.{first_path};
+ghost use Rattle.zb_laws.specs.Histories.{FrontFits, TellsLegal, InOrder};
+ghost use Rattle.zb_laws.specs.Printed.{OneReport, TailsDiffer, OneRun};
+ghost use Rattle.zb_laws.specs.Calm.{CalmIsFaultless, RowsReasoned};
+ghost use Rattle.zb_laws.specs.Worked.{RowsFit, WrongUnfit};
+
+/// Each front of a report that fits is one that fits.
+pub fn front_fits()
+    ensures { FrontFits }
+{}
+
+/// A report that fits tells one legal history of the calls that it answers.
+pub fn tells_legal()
+    ensures { TellsLegal }
+{}
+
+/// Each client's updates, and its reads, are answered once and in its order.
+pub fn in_order()
+    ensures { InOrder }
+{}
+
+/// No text of a line is a front of another's.
+pub fn no_front()
+    ensures { NoFront }
+{}
+
+/// A front of a report's text that is a text of lines is that of its first lines.
+pub fn front_lines()
+    ensures { FrontLines }
+{}
+
+/// The bytes of a report determine its lines.
+pub fn same_lines()
+    ensures { SameLines }
+{}
+
+/// A spelling is that of one line of a script.
+pub fn one_spelling()
+    ensures { OneSpelling }
+{}
+
+/// Of two readings of the same rows one has the first rows of the other.
+pub fn rows_agree()
+    ensures { RowsAgree }
+{}
+
+/// The bytes of a script determine its sizes, its rows, and what follows them.
+pub fn one_reading()
+    ensures whole { OneReading whole }
+    ensures first { OneReading first_path }
+{}
+
+/// One line of a script is the first that isn't in the grammar.
+pub fn one_stop()
+    ensures whole { OneStop whole }
+    ensures first { OneStop first_path }
+{}
+
+/// A script that has a header isn't one that has none.
+pub fn header_or_none()
+    ensures whole { HeaderOrNone whole }
+    ensures first { HeaderOrNone first_path }
+{}
+
+/// Lines and a tail that starts otherwise are told apart.
+pub fn one_report()
+    ensures { OneReport }
+{}
+
+/// What stands behind the lines of a run starts otherwise.
+pub fn tails_differ()
+    ensures whole { TailsDiffer whole }
+    ensures first { TailsDiffer first_path }
+{}
+
+/// What a run prints to its end determines its lines.
+pub fn one_run()
+    ensures whole { OneRun whole }
+    ensures first { OneRun first_path }
+{}
+
+/// The worked rows fit.
+pub fn rows_fit()
+    ensures { RowsFit }
+{}
+
+/// Wrong reports don't fit.
+pub fn wrong_unfit()
+    ensures { WrongUnfit }
+{}
+
+/// Where no event and no rebuild came before, and no device failed, a line that has a reason tells no fault.
+pub fn calm_is_faultless()
+    ensures { CalmIsFaultless }
+{}
+
+/// The lines of the worked rows have their reasons by the events alone.
+pub fn rows_reasoned()
+    ensures { RowsReasoned }
+{}

@@ -1,0 +1,90 @@
+-- The names right behind a front, gathered from the map.
+use Rattle.std.proofs.Common.{◌≡◌, ℕ, ◌+◌, true, false, not, ◌&&◌, eqb, List, [], ◌∷◌, ◌++◌, length, drop, map, filter, refl, sym, ap, ◌∙◌, inl, inr}
+use Rattle.std.specs.List.{AllByRecursion, list_any}
+use Rattle.std.specs.List.Sorted.{IsStrictlySortedBy}
+use Rattle.std.specs.declared.vec.Vec.{Vec}
+use Rattle.std.specs.declared.cmp.Ordering.TheVariants.{Less}
+use Rattle.std.specs.Ordering.{is_le}
+use Rattle.std.specs.Map.{keys_of}
+use Rattle.std.proofs.lemmas.List.{length-append}
+use Rattle.std.proofs.lemmas.Bool.{cases_Bool}
+use Rattle.zb_types.specs.Paths.{is_path}
+use Rattle.zb_types.specs.Names.{Entry, names_in}
+use Rattle.zb_names.specs.declared.entries.Kept.{Kept}
+use Rattle.zb_names.specs.Shown.{kept_as, shown, begins_with}
+use Rattle.zb_names.specs.Listing.{IsFront, name_of, names_behind}
+use Rattle.zb_names.specs.Sound.{key_cmp}
+use Rattle.zb_names.proofs.Behind.{from_front, from_front-kept, from_front-left, before_front}
+use Rattle.zb_names.proofs.NameParts.{has_slash, name_behind}
+use Rattle.zb_names.proofs.Removing.{begins-below}
+
+-- one path more
+pub names_behind-cons : (front path : List ℕ) (entry : Entry) (es : List (List ℕ × Entry)) → IsFront front → is_path path ≡ true → begins_with front path ≡ true
+    → names_behind front ((path, entry) ∷ es) ≡ name_of (drop (length front) path) ++ names_behind front es
+names_behind-cons front path entry es is_front is begins =
+    let name = name_behind front path is_front begins is in
+    elim (cases_Bool (has_slash (drop (length front) path))) [
+      | inl some ↦ rw (begins, name, some) refl
+      | inr none ↦ rw (begins, name, none) refl
+    ]
+
+-- a path that doesn't begin with the front has no such name
+names_behind-other : (front path : List ℕ) (entry : Entry) (es : List (List ℕ × Entry)) → begins_with front path ≡ false → names_behind front ((path, entry) ∷ es) ≡ names_behind front es
+names_behind-other front path entry es other = rw other refl
+
+module _ {Z : Type 0} (front : Vec ℕ Z) where
+  pub names_behind-none : (es : List (Vec ℕ Z × Kept)) → AllByRecursion (λ e. begins_with front.items e.0.items ≡ false) es → names_behind front.items (shown es) ≡ []
+  names_behind-none [] none = refl
+  names_behind-none (e ∷ es) none = names_behind-other front.items e.0.items (kept_as e.1) (shown es) none.0 ∙ names_behind-none es none.1
+
+  -- what stands before the front has no such name
+  pub names_behind-from : (es : List (Vec ℕ Z × Kept)) → names_behind front.items (shown (from_front front es)) ≡ names_behind front.items (shown es)
+  names_behind-from [] = refl
+  names_behind-from (e ∷ es) = elim (cases_Bool (is_le (key_cmp front e.0))) [
+    | inl le ↦ ap (λ s. names_behind front.items (shown s)) (from_front-kept front e es le) ∙ same_first (e.0.items, kept_as e.1) (shown (from_front front es)) (shown es) (names_behind-from es)
+    | inr before ↦ ap (λ s. names_behind front.items (shown s)) (from_front-left front e es before) ∙ names_behind-from es
+        ∙ sym (names_behind-other front.items e.0.items (kept_as e.1) (shown es) (before_front front.items e.0.items before))
+  ]
+    where
+      same_first : (d : List ℕ × Entry) (ds es : List (List ℕ × Entry)) → names_behind front.items ds ≡ names_behind front.items es → names_behind front.items (d ∷ ds) ≡ names_behind front.items (d ∷ es)
+      same_first d ds es same = elim (cases_Bool (begins_with front.items d.0 && not (has_slash (drop (length front.items) d.0)))) [
+        | inl child ↦ rw child (ap (λ rest. drop (length front.items) d.0 ∷ rest) same)
+        | inr other ↦ rw other same
+      ]
+
+  -- what holds of each entry holds of each from the front on
+  pub All-from : (P : Vec ℕ Z × Kept → Type 0) (es : List (Vec ℕ Z × Kept)) → AllByRecursion P es → AllByRecursion P (from_front front es)
+  All-from P [] all = tt
+  All-from P (e ∷ es) all = elim (cases_Bool (is_le (key_cmp front e.0))) [
+    | inl le ↦ rw (from_front-kept front e es le) (all.0, All-from P es all.1)
+    | inr before ↦ rw (from_front-left front e es before) (All-from P es all.1)
+  ]
+
+  pub le-from : (es : List (Vec ℕ Z × Kept)) → AllByRecursion (λ e. is_le (key_cmp front e.0) ≡ true) (from_front front es)
+  le-from [] = tt
+  le-from (e ∷ es) = elim (cases_Bool (is_le (key_cmp front e.0))) [
+    | inl le ↦ rw (from_front-kept front e es le) (le, le-from es)
+    | inr before ↦ rw (from_front-left front e es before) (le-from es)
+  ]
+
+  behind-from : (key : Vec ℕ Z) (es : List (Vec ℕ Z × Kept)) → AllByRecursion (λ k. key_cmp key k ≡ Less) (keys_of es) → AllByRecursion (λ k. key_cmp key k ≡ Less) (keys_of (from_front front es))
+  behind-from key [] behind = tt
+  behind-from key (e ∷ es) behind = elim (cases_Bool (is_le (key_cmp front e.0))) [
+    | inl le ↦ rw (from_front-kept front e es le) (behind.0, behind-from key es behind.1)
+    | inr before ↦ rw (from_front-left front e es before) (behind-from key es behind.1)
+  ]
+
+  pub rising-from : (es : List (Vec ℕ Z × Kept)) → IsStrictlySortedBy key_cmp (keys_of es) → IsStrictlySortedBy key_cmp (keys_of (from_front front es))
+  unfolding IsStrictlySortedBy
+  rising-from [] rising = tt
+  rising-from (e ∷ es) rising = elim (cases_Bool (is_le (key_cmp front e.0))) [
+    | inl le ↦ rw (from_front-kept front e es le) (behind-from e.0 es rising.0, rising-from es rising.1)
+    | inr before ↦ rw (from_front-left front e es before) (rising-from es rising.1)
+  ]
+
+-- the names behind the front of a directory are the names in it
+pub names_behind-in : (front path : List ℕ) (entries : List (List ℕ × Entry)) → front ≡ path ++ 47 ∷ [] → names_behind front entries ≡ names_in path entries
+names_behind-in front path entries same =
+    let long : length (path ++ 47 ∷ []) ≡ length path + 1 = length-append path (47 ∷ []) in
+    ap (λ f. names_behind f entries) same
+    ∙ (λ i. map (λ e. drop (long i) e.0) (filter (λ e. begins-below path e.0 i && not (list_any (λ b. eqb b 47) (drop (long i) e.0))) entries))

@@ -1,0 +1,279 @@
+ghost use Rattle.std.specs.Prelude.{◌≡◌, ◌+◌, ◌≤◌, [], ◌∷◌, None, Some, true, false, OnOk, OnErr, IfOk, IfErr, MatchResult, IfSome, IsSome, ◌↔◌, IsTrue, length};
+ghost use Rattle.std.specs.List.{list_any};
+ghost use Rattle.zb_types.specs.Paths.{is_path};
+ghost use Rattle.zb_types.specs.Names.{first_names, walk, has, find, with_entry, is_below, name_refusal, name_effect, name_change, name_reply, names_in};
+ghost use Rattle.zb_types.specs.Tree.{or_none};
+ghost use Rattle.std.specs.Option.{option_copied};
+ghost use Rattle.zb_types.specs.declared.calls.Call.TheVariants.{Create, Mkdir, Remove, Rename, Stat, List as ListOf};
+ghost use Rattle.zb_types.specs.declared.calls.Reply.TheVariants.{Made};
+ghost use Rattle.zb_names.specs.Shown.{kept_as, seen, listed, change_of};
+ghost use Rattle.zb_names.specs.Sound.{HasFront, IsTree};
+ghost use Rattle.zb_names.specs.Answers.{IsAnswer};
+
+use crate::entries::{Entry, EntryMap, Kept, put};
+use crate::faults::NameFault;
+use crate::listing::names_behind;
+use crate::loading::{all_hang, gather, rise};
+use crate::looking::{entry_at, has_below, refusal_of_new};
+use crate::moving::{gather_moves, movable, shift};
+use std::alloc::Global;
+use std::marker::Model;
+use zb_types::{Fid, Mem, NameList, Path, Refusal};
+
+pub(crate) const LAST_NUMBER: u32 = 4_294_967_295;
+
+/// Files and directories under their paths, which contracts see as the names of the plain tree.
+#[derive(Drop)]
+pub struct Names {
+    pub(crate) next: u32,
+    pub(crate) kept: EntryMap,
+}
+
+impl Model for Names {
+    ghost use Rattle.zb_types.specs.Names.{Names as PlainNames};
+    ghost use Rattle.zb_names.specs.Shown.{shown};
+    ghost use Rattle.zb_names.specs.Sound.{IsSound};
+
+    ghost Value = { PlainNames };
+
+    ghost view = { λ a. record { next = a.next; entries = shown a.kept.entries } };
+
+    ghost invariant = { λ a. IsSound a.next a.kept.entries };
+}
+
+// The path with these bytes.
+fn path_of(alloc: Global, bytes: &[u8]) -> Mem<Path>
+    requires { IsTrue (is_path bytes.now) }
+    ensures { IfOk result (λ path. path ≡ bytes.now) }
+{
+    Ok(Path::parse(alloc, bytes)?.unwrap())
+}
+
+impl Names {
+    /// No names; the first file gets number 1.
+    pub fn new(alloc: Global) -> Mem<Names>
+        ensures { IfOk result (λ names. names ≡ first_names) }
+    {
+        Ok(Names {
+            next: 1,
+            kept: EntryMap::new(alloc),
+        })
+    }
+
+    /// The names with these entries and this number for the next file. None exactly where the number is 0, where the
+    /// paths don't rise by their bytes, or where a proper front of a path isn't that of a directory.
+    pub fn load(alloc: Global, next: u32, list: &[(Path, Entry)]) -> Mem<Option<Names>>
+        ensures same { IfOk result (λ found. IfSome found (λ names. names ≡ record { next = next; entries = listed list.now })) }
+        ensures exact { IfOk result (λ found. IsSome found ↔ IsTree next (listed list.now)) }
+    {
+        if next == 0 || !rise(list) {
+            return Ok(None);
+        }
+        let kept = gather(alloc, list)?;
+        if !all_hang(&kept, list) {
+            return Ok(None);
+        }
+        Ok(Some(Names { next, kept }))
+    }
+
+    /// What stands at the path. Refused where a front of the path isn't a directory, and where nothing stands there.
+    pub fn resolve(&self, path: &Path) -> Result<Entry, Refusal>
+        ensures found { IfOk result (λ entry. find path.now self.now.entries ≡ Some (seen entry)) }
+        ensures refused { MatchResult result (λ _. name_refusal self.now (Stat path.now) ≡ None) (λ why. name_refusal self.now (Stat path.now) ≡ Some why) }
+    {
+        let kept = entry_at(&self.kept, path.slice())?;
+        Ok(kept.entry())
+    }
+
+    /// The number that the next file gets.
+    pub fn next(&self) -> u32
+        ensures { result ≡ self.now.next }
+    {
+        self.next
+    }
+
+    fn add(&mut self, alloc: Global, path: &Path, entry: Entry) -> Mem<()>
+        requires walked { walk self.old.entries path.now ≡ None }
+        requires free { has path.now self.old.entries ≡ false }
+        ensures ok { OnOk result (self.new ≡ record { next = self.old.next; entries = with_entry path.now (seen entry) self.old.entries }) }
+        ensures err { OnErr result (self.new ≡ self.old) }
+    {
+        put(alloc, &mut self.kept, path.slice(), entry)?;
+        Ok(())
+    }
+
+    /// Makes an empty file, and gives its number.
+    pub fn create(&mut self, alloc: Global, path: &Path) -> Result<Fid, NameFault>
+        ensures ok { OnOk result (self.new ≡ name_effect self.old (Create path.now)) }
+        ensures number { IfOk result (λ fid. Made fid ≡ name_reply self.old (Create path.now)) }
+        ensures refused { IsAnswer (name_refusal self.old (Create path.now)) result }
+        ensures err { OnErr result (self.new ≡ self.old) }
+    {
+        if let Some(why) = refusal_of_new(&self.kept, path.slice()) {
+            return Err(NameFault::Refused(why));
+        }
+        if self.next == LAST_NUMBER {
+            return Err(NameFault::Refused(Refusal::Full));
+        }
+        let fid = Fid(self.next);
+        self.add(alloc, path, Entry::File(fid))?;
+        self.next += 1;
+        Ok(fid)
+    }
+
+    /// Makes a directory.
+    pub fn mkdir(&mut self, alloc: Global, path: &Path) -> Result<(), NameFault>
+        ensures ok { OnOk result (self.new ≡ name_effect self.old (Mkdir path.now)) }
+        ensures refused { IsAnswer (name_refusal self.old (Mkdir path.now)) result }
+        ensures err { OnErr result (self.new ≡ self.old) }
+    {
+        if let Some(why) = refusal_of_new(&self.kept, path.slice()) {
+            return Err(NameFault::Refused(why));
+        }
+        self.add(alloc, path, Entry::Dir)?;
+        Ok(())
+    }
+
+    // The number of the file that may be removed, or none for a directory.
+    pub(crate) fn removable(&self, path: &Path) -> Result<Option<Fid>, Refusal>
+        ensures none_below { OnOk result (list_any (λ e. is_below path.now e.0) self.now.entries ≡ false) }
+        ensures file { IfOk result (λ fid. change_of fid ≡ name_change self.now (Remove path.now)) }
+        ensures refused { MatchResult result (λ _. name_refusal self.now (Remove path.now) ≡ None) (λ why. name_refusal self.now (Remove path.now) ≡ Some why) }
+    {
+        match entry_at(&self.kept, path.slice())? {
+            Kept::File(fid) => Ok(Some(*fid)),
+            Kept::Dir { front } => {
+                if has_below(&self.kept, front) {
+                    return Err(Refusal::NotEmpty);
+                }
+                Ok(None)
+            }
+        }
+    }
+
+    /// Removes a file or an empty directory, without memory. Gives the number of a file.
+    pub fn remove(&mut self, path: &Path) -> Result<Option<Fid>, Refusal>
+        ensures ok { OnOk result (self.new ≡ name_effect self.old (Remove path.now)) }
+        ensures file { IfOk result (λ fid. change_of fid ≡ name_change self.old (Remove path.now)) }
+        ensures refused { MatchResult result (λ _. name_refusal self.old (Remove path.now) ≡ None) (λ why. name_refusal self.old (Remove path.now) ≡ Some why) }
+        ensures err { OnErr result (self.new ≡ self.old) }
+    {
+        let fid = self.removable(path)?;
+        self.kept.remove(path.slice());
+        Ok(fid)
+    }
+    /// Renames a file, or a directory with what lies below it.
+    pub fn rename(&mut self, alloc: Global, from: &Path, to: &Path) -> Result<(), NameFault>
+        ensures ok { OnOk result (self.new ≡ name_effect self.old (Rename from.now to.now)) }
+        ensures refused { IsAnswer (name_refusal self.old (Rename from.now to.now)) result }
+        ensures err { OnErr result (self.new ≡ self.old) }
+    {
+        let from = from.slice();
+        let to = to.slice();
+        let kept = movable(&self.kept, from, to)?;
+        let moves = gather_moves(alloc, &self.kept, kept, from, to)?;
+        shift(alloc, &mut self.kept, &moves)?;
+        Ok(())
+    }
+
+    /// How many names there are.
+    pub fn count(&self) -> usize
+        ensures count { result ≡ length self.now.entries }
+        ensures tree { IsTree self.now.next self.now.entries }
+    {
+        self.kept.len()
+    }
+
+    /// The same names once more, in memory of the same allocator.
+    pub fn copy(&self, _alloc: Global) -> Mem<Names>
+        ensures { IfOk result (λ names. names ≡ self.now) }
+    {
+        Ok(Names {
+            next: self.next,
+            kept: self.kept.clone()?,
+        })
+    }
+
+    /// Each path with what stands there, in the order of the paths' bytes.
+    pub fn entries(&self, alloc: Global) -> Mem<Vec<(Path, Entry)>>
+        ensures { IfOk result (λ list. listed list.items ≡ self.now.entries) }
+    {
+        let mut list = Vec::new(alloc);
+        for (key, kept) in &self.kept {
+            list.push((path_of(alloc, key)?, kept.entry()))?;
+        }
+        Ok(list)
+    }
+
+    fn list_root(&self, alloc: Global) -> Mem<NameList>
+        ensures { IfOk result (λ names. names ≡ names_in [] self.now.entries) }
+    {
+        let mut front = Vec::new(alloc);
+        front.push(b'/')?;
+        names_behind(alloc, &self.kept, &front)
+    }
+
+    fn list_at(&self, alloc: Global, path: &Path) -> Result<NameList, NameFault>
+        ensures ok { IfOk result (λ names. names ≡ names_in path.now self.now.entries) }
+        ensures refused { IsAnswer (name_refusal self.now (ListOf (Some path.now))) result }
+    {
+        let kept = entry_at(&self.kept, path.slice())?;
+        match kept {
+            Kept::File(_) => Err(NameFault::Refused(Refusal::NotDir)),
+            Kept::Dir { front } => Ok(names_behind(alloc, &self.kept, front)?),
+        }
+    }
+
+    /// The names in a directory, or in the root, in the order of their paths.
+    pub fn list(&self, alloc: Global, path: Option<&Path>) -> Result<NameList, NameFault>
+        ensures ok { IfOk result (λ names. names ≡ names_in (or_none (option_copied path.entry)) self.now.entries) }
+        ensures refused { IsAnswer (name_refusal self.now (ListOf (option_copied path.entry))) result }
+    {
+        match path {
+            None => Ok(self.list_root(alloc)?),
+            Some(path) => self.list_at(alloc, path),
+        }
+    }
+}
+
+#[cfg(test)]
+mod tests {
+    use super::*;
+    use std::test::Fail;
+
+    fn path(alloc: Global, text: &[u8]) -> Result<Path, Fail> {
+        Ok(Path::parse(alloc, text)?.ok_or("no path")?)
+    }
+
+    fn text_of(alloc: Global, names: &Names) -> Result<Vec<u8>, Fail> {
+        let mut text = Vec::new(alloc);
+        for (path, _) in &names.entries(alloc)? {
+            text.extend_from_slice(path.slice())?;
+            text.push(b' ')?;
+        }
+        Ok(text)
+    }
+
+    #[test]
+    fn a_directory_is_renamed_with_what_lies_below(rt: HostRuntime) -> Result<(), Fail> {
+        let alloc = rt.alloc();
+        let mut names = Names::new(alloc)?;
+        names.mkdir(alloc, &path(alloc, b"/a")?)?;
+        names.create(alloc, &path(alloc, b"/a!")?)?;
+        names.create(alloc, &path(alloc, b"/a/x")?)?;
+        names.rename(alloc, &path(alloc, b"/a")?, &path(alloc, b"/b")?)?;
+        assert_eq!(rt;
+            text_of(alloc, &names)?.as_slice(),
+            b"/a! /b /b/x ".as_slice()
+        );
+        assert_eq!(rt; names.list(alloc, None)?.len(), 2);
+        assert_eq!(rt; names.remove(&path(alloc, b"/b")?), Err(Refusal::NotEmpty));
+        assert_eq!(rt; names.remove(&path(alloc, b"/b/x")?), Ok(Some(Fid(2))));
+        let same = Names::load(alloc, names.next(), &names.entries(alloc)?)?.ok_or("no tree")?;
+        assert_eq!(rt;
+            text_of(alloc, &same.copy(alloc)?)?.as_slice(),
+            b"/a! /b ".as_slice()
+        );
+        Ok(())
+    }
+}

@@ -1,0 +1,12 @@
+pub mod Without
+pub mod Decimals
+pub mod Splitting
+pub mod Escapes
+pub mod Fields
+pub mod Ascii
+pub mod Keywords
+pub mod Names
+pub mod LineForms
+pub mod Headings
+pub mod Sizing
+pub mod Ends

@@ -1,0 +1,3 @@
+pub mod Exclusives
+pub mod Placings
+pub mod Shares

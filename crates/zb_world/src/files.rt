@@ -1,0 +1,402 @@
+ghost use Rattle.std.specs.Prelude.{◌≡◌, ◌≢◌, ◌++◌, ◌<◌, ◌≤◌, ◌+◌, ◌-◌, ◌*◌, ◌/◌, ◌%◌, ◌^◌, min, max, ℕ, length, take, IfOk, OnOk, OnErr, None, Some, vec_len, slice_index, slice_index_or, nat_le, if◌then◌else◌};
+ghost use Rattle.std.specs.Option.{ForSome};
+ghost use Rattle.zb_types.specs.Bytes.{first_bytes, written, resized};
+ghost use Rattle.zb_world.specs.Blocks.{bytes_at, IsStored, Extends, IsAt};
+ghost use Rattle.zb_world.specs.Files.{place_at, HasSlot, SamePlaces, IsSize, IsLaid, AreReady, IsTouched, new_block_of, block_at, file_byte, shown_bytes};
+
+use crate::blocks::{Blocks, Place};
+use std::alloc::Global;
+use std::collections::BTreeMap;
+use std::marker::Model;
+use zb_types::{ByteList, Fid, Mem, NoMemory};
+
+// The most bytes of a file.
+const MAX_FILE: usize = 67_108_864;
+
+/// A file: its length in bytes, and where its blocks stand, by number. A slot with no place is a hole.
+#[derive(Drop)]
+struct FileState {
+    length: u32,
+    blocks: BTreeMap<u32, Option<Place>>,
+}
+
+impl FileState {
+    // Where a block stands, if it isn't a hole.
+    fn place(&self, number: u32) -> Option<Place>
+        ensures { result ≡ place_at self.now number }
+    {
+        match self.blocks.get(&number) {
+            None => None,
+            Some(place) => *place,
+        }
+    }
+
+    // Makes room for the place of a block.
+    fn reserve(&mut self, number: u32) -> Mem<()>
+        ensures same { SamePlaces self.old self.new }
+        ensures slot { OnOk result (HasSlot self.new number) }
+    {
+        if !self.blocks.contains_key(&number) {
+            self.blocks.insert(number, None)?;
+        }
+        Ok(())
+    }
+
+    // Puts a block, for which there is room, to this place.
+    fn set(&mut self, number: u32, place: Option<Place>)
+        ensures here { HasSlot self.old number → place_at self.new number ≡ place }
+        ensures none { place_at self.old number ≡ None → place ≡ None → place_at self.new number ≡ None }
+        ensures others { (k : ℕ) → k ≢ number → place_at self.new k ≡ place_at self.old k }
+        ensures slots { (k : ℕ) → HasSlot self.old k → HasSlot self.new k }
+        ensures length { self.new.length ≡ self.old.length }
+    {
+        if let Some(slot) = self.blocks.get_mut(&number) {
+            *slot = place;
+        }
+    }
+
+    // Drops the blocks behind the last.
+    fn keep_up_to(&mut self, last: u32) -> Mem<()>
+        requires { last < 2 ^ 32 - 1 }
+        ensures ok { OnOk result ((k : ℕ) → place_at self.new k ≡ (if nat_le k last then place_at self.old k else None)) }
+        ensures slots { (k : ℕ) → k ≤ last → HasSlot self.old k → HasSlot self.new k }
+        ensures err { OnErr result (SamePlaces self.old self.new) }
+        ensures length { self.new.length ≡ self.old.length }
+    {
+        self.blocks.split_off(&(last + 1))?;
+        Ok(())
+    }
+}
+
+// The bytes of a block over which a part is written: zeros fill a gap.
+fn overlaid(alloc: Global, old: &[u8], place: usize, part: &[u8]) -> Mem<Vec<u8>>
+    requires { place + length part.now < 2 ^ 63 }
+    ensures { IfOk result (λ block. block.items ≡ written old.now place part.now) }
+{
+    let mut block = Vec::from_slice(alloc, old)?;
+    block.resize(old.len() + place, 0)?;
+    block.truncate(place);
+    block.extend_from_slice(part)?;
+    let end = place + part.len();
+    if end < old.len() {
+        let (_, rest) = old.split_at(end);
+        block.extend_from_slice(rest)?;
+    }
+    Ok(block)
+}
+
+// Block `number` after a write that has a byte in it.
+fn new_block(
+    alloc: Global,
+    size: u32,
+    offset: u32,
+    bytes: &[u8],
+    number: u32,
+    old: &[u8],
+) -> Mem<Vec<u8>>
+    requires size { size ≤ 4096 }
+    requires range { offset + length bytes.now ≤ MAX_FILE }
+    requires touched { IsTouched size offset bytes.now number }
+    ensures { IfOk result (λ block. block.items ≡ new_block_of size offset bytes.now number old.now) }
+{
+    let start = number * size;
+    let low = offset.max(start);
+    let high = (offset as usize + bytes.len()).min((start + size) as usize);
+    let (_, rest) = bytes.split_at((low - offset) as usize);
+    let (part, _) = rest.split_at(high - low as usize);
+    overlaid(alloc, old, (low - start) as usize, part)
+}
+
+// Stores block `number` as it is after a write that has a byte in it, and makes room for its place.
+fn store_block(
+    alloc: Global,
+    size: u32,
+    store: &mut Blocks,
+    file: &mut FileState,
+    offset: u32,
+    bytes: &[u8],
+    number: u32,
+) -> Mem<Place>
+    requires size { size ≤ 4096 }
+    requires range { offset + length bytes.now ≤ MAX_FILE }
+    requires touched { IsTouched size offset bytes.now number }
+    ensures place { IfOk result (IsAt store.new (new_block_of size offset bytes.now number (block_at store.old file.old number))) }
+    ensures slot { OnOk result (HasSlot file.new number) }
+    ensures same { SamePlaces file.old file.new }
+    ensures others { Extends store.old store.new }
+{
+    let old = store.bytes(file.place(number));
+    let block = new_block(alloc, size, offset, bytes, number, old)?;
+    file.reserve(number)?;
+    store.push(block)
+}
+
+// Stores each block in which a write has a byte, as it is after the write, and makes room for their places.
+fn store_blocks(
+    alloc: Global,
+    size: u32,
+    store: &mut Blocks,
+    file: &mut FileState,
+    offset: u32,
+    bytes: &[u8],
+) -> Mem<Vec<Place>>
+    requires size { IsSize size }
+    requires some { 0 < length bytes.now }
+    requires range { offset + length bytes.now ≤ MAX_FILE }
+    requires laid { IsLaid size store.old file.old }
+    ensures count { IfOk result (λ places. offset / size + vec_len places ≡ (offset + length bytes.now - 1) / size + 1) }
+    ensures ready { IfOk result (λ places. AreReady size offset bytes.now (offset / size) store.old file.old store.new file.new places.items) }
+    ensures same { SamePlaces file.old file.new }
+    ensures others { Extends store.old store.new }
+{
+    let mut places = Vec::new(alloc);
+    let first = offset / size;
+    let last = (offset as usize + bytes.len() - 1) as u32 / size;
+    'touched: for number in first..last + 1 {
+        places.push(store_block(alloc, size, store, file, offset, bytes, number)?)?;
+    }
+    Ok(places)
+}
+
+// Puts the blocks from the first on, for which there is room, to these places.
+fn set_places(file: &mut FileState, first: u32, places: &[Place])
+    requires range { first + length places.now < 2 ^ 32 }
+    requires slots { (j : ℕ) → j < length places.now → HasSlot file.old (first + j) }
+    ensures within { (j : ℕ) (d : Place) → j < length places.now → place_at file.new (first + j) ≡ Some (slice_index_or places.now j d) }
+    ensures below { (k : ℕ) → k < first → place_at file.new k ≡ place_at file.old k }
+    ensures behind { (k : ℕ) → first + length places.now ≤ k → place_at file.new k ≡ place_at file.old k }
+    ensures length { file.new.length ≡ file.old.length }
+{
+    let mut number = first;
+    'places: for place in places {
+        file.set(number, Some(*place));
+        number += 1;
+    }
+}
+
+// Writes bytes over those of a file: zeros fill a gap.
+fn write_file(
+    alloc: Global,
+    size: u32,
+    store: &mut Blocks,
+    file: &mut FileState,
+    offset: u32,
+    bytes: &[u8],
+) -> Mem<()>
+    requires size { IsSize size }
+    requires some { 0 < length bytes.now }
+    requires range { offset + length bytes.now ≤ MAX_FILE }
+    requires laid { IsLaid size store.old file.old }
+    ensures laid { IsLaid size store.new file.new }
+    ensures others { Extends store.old store.new }
+    ensures ok { OnOk result (shown_bytes size store.new file.new ≡ written (shown_bytes size store.old file.old) offset bytes.now) }
+    ensures err { OnErr result (shown_bytes size store.new file.new ≡ shown_bytes size store.old file.old) }
+{
+    let places = store_blocks(alloc, size, store, file, offset, bytes)?;
+    set_places(file, offset / size, &places);
+    let end = (offset as usize + bytes.len()) as u32;
+    file.length = file.length.max(end);
+    Ok(())
+}
+
+// Where the first bytes of a block stand: a new block where it is longer, and nowhere where none are left.
+fn cut_block(
+    alloc: Global,
+    store: &mut Blocks,
+    place: Option<Place>,
+    length: usize,
+) -> Mem<Option<Place>>
+    requires { ForSome place (IsStored store.old) }
+    ensures cut { IfOk result (λ cut. bytes_at store.new cut ≡ take length (bytes_at store.old place)) }
+    ensures stored { IfOk result (λ cut. ForSome cut (IsStored store.new)) }
+    ensures hole { place ≡ None → IfOk result (λ cut. cut ≡ None) }
+    ensures others { Extends store.old store.new }
+{
+    let old = store.bytes(place);
+    if old.len() <= length {
+        return Ok(place);
+    }
+    if length == 0 {
+        return Ok(None);
+    }
+    let (front, _) = old.split_at(length);
+    let cut = Vec::from_slice(alloc, front)?;
+    Ok(Some(store.push(cut)?))
+}
+
+// Cuts a file, or extends it by zeros.
+fn resize_file(
+    alloc: Global,
+    size: u32,
+    store: &mut Blocks,
+    file: &mut FileState,
+    length: u32,
+) -> Mem<()>
+    requires size { IsSize size }
+    requires range { length ≤ MAX_FILE }
+    requires laid { IsLaid size store.old file.old }
+    ensures laid { IsLaid size store.new file.new }
+    ensures others { Extends store.old store.new }
+    ensures ok { OnOk result (shown_bytes size store.new file.new ≡ resized (shown_bytes size store.old file.old) length) }
+    ensures err { OnErr result (shown_bytes size store.new file.new ≡ shown_bytes size store.old file.old) }
+{
+    let last = length / size;
+    let cut = cut_block(alloc, store, file.place(last), (length % size) as usize)?;
+    file.keep_up_to(last)?;
+    file.set(last, cut);
+    file.length = length;
+    Ok(())
+}
+
+// Appends the bytes of a block from one place to another: past its end stand zeros.
+fn push_part(bytes: &mut Vec<u8>, block: &[u8], from: usize, to: usize) -> Mem<()>
+    requires from { from ≤ to }
+    requires to { to ≤ 4096 }
+    ensures { OnOk result (bytes.new.items ≡ bytes.old.items ++ first_bytes (to - from) (λ y. slice_index block.now (from + y))) }
+{
+    let end = to.min(block.len());
+    let (front, _) = block.split_at(end);
+    let (_, part) = front.split_at(from.min(end));
+    let length = bytes.len() + (to - from);
+    bytes.extend_from_slice(part)?;
+    bytes.resize(length, 0)?;
+    Ok(())
+}
+
+// The bytes of a file from one place to another.
+fn read_file(
+    alloc: Global,
+    size: u32,
+    store: &Blocks,
+    file: &FileState,
+    start: u32,
+    end: u32,
+) -> Mem<Vec<u8>>
+    requires size { IsSize size }
+    requires start { start ≤ end }
+    ensures { IfOk result (λ bytes. bytes.items ≡ first_bytes (end - start) (λ i. file_byte size store.now file.now (start + i))) }
+{
+    let mut bytes = Vec::with_capacity(alloc, (end - start) as usize)?;
+    let mut at = start;
+    'rest: while at < end {
+        let from = at % size;
+        let to = size.min(from + (end - at));
+        let block = store.bytes(file.place(at / size));
+        push_part(&mut bytes, block, from as usize, to as usize)?;
+        at += to - from;
+    }
+    Ok(bytes)
+}
+
+/// Files under their numbers, whose bytes lie in blocks. Contracts see a list of numbers with the files' bytes.
+///
+/// A block that is written is stored anew, in the list of the server whose turn it is. A block that was never written is
+/// a hole, which reads as zeros.
+#[derive(Drop)]
+pub struct Files {
+    block: u32,
+    store: Blocks,
+    files: BTreeMap<u32, FileState>,
+}
+
+impl Model for Files {
+    ghost use Rattle.std.specs.Prelude.{ℕ, List};
+    ghost use Rattle.zb_world.specs.Files.{shown_files, AreLaid};
+
+    ghost Value = { List (ℕ × List ℕ) };
+
+    ghost view = { λ a. shown_files a.block a.store a.files.entries };
+
+    ghost invariant = { λ a. AreLaid a.block a.store a.files };
+}
+
+impl Files {
+    ghost use Rattle.std.specs.Prelude.{[], IsSome, option_map, drop};
+    ghost use Rattle.zb_types.specs.Keyed.{look, put, replaced, without};
+    ghost use Rattle.zb_types.specs.Apply.{max_file};
+    ghost use Rattle.zb_types.specs.Tree.{stored};
+
+    /// No files. Blocks have `block` bytes, 64 to 4,096.
+    pub fn new(alloc: Global, block: u32) -> Mem<Files>
+        requires low { 64 ≤ block }
+        requires high { block ≤ 4096 }
+        ensures { IfOk result (λ files. files ≡ []) }
+    {
+        Ok(Files {
+            block,
+            store: Blocks::new(alloc),
+            files: BTreeMap::new(alloc),
+        })
+    }
+
+    /// The length of a file in bytes, or none where no file has the number.
+    pub fn length(&self, fid: Fid) -> Option<u32>
+        ensures { result ≡ option_map length (look fid.0 self.now) }
+    {
+        match self.files.get(&fid.0) {
+            None => None,
+            Some(file) => Some(file.length),
+        }
+    }
+
+    /// Adds an empty file under this number.
+    pub fn add(&mut self, alloc: Global, fid: Fid) -> Mem<()>
+        ensures ok { OnOk result (self.new ≡ put fid.0 [] self.old) }
+        ensures err { OnErr result (self.new ≡ self.old) }
+    {
+        let file = FileState {
+            length: 0,
+            blocks: BTreeMap::new(alloc),
+        };
+        self.files.insert(fid.0, file)?;
+        Ok(())
+    }
+
+    /// Removes the file with this number, if there is one.
+    pub fn remove(&mut self, fid: Fid)
+        ensures { self.new ≡ without fid.0 self.old }
+    {
+        self.files.remove(&fid.0);
+    }
+
+    /// Writes bytes over those of a file, from byte `offset` on: zeros fill a gap.
+    pub fn write(&mut self, alloc: Global, fid: Fid, offset: u32, bytes: &[u8]) -> Mem<()>
+        requires there { IsSome (look fid.0 self.old) }
+        requires some { 0 < length bytes.now }
+        requires range { offset + length bytes.now ≤ max_file }
+        ensures ok { OnOk result (self.new ≡ replaced fid.0 (written (stored self.old fid.0) offset bytes.now) self.old) }
+        ensures err { OnErr result (self.new ≡ self.old) }
+    {
+        let Some(file) = self.files.get_mut(&fid.0) else {
+            return Ok(());
+        };
+        write_file(alloc, self.block, &mut self.store, file, offset, bytes)
+    }
+
+    /// Cuts a file to a length in bytes, or extends it by zeros.
+    pub fn truncate(&mut self, alloc: Global, fid: Fid, length: u32) -> Mem<()>
+        requires there { IsSome (look fid.0 self.old) }
+        requires range { length ≤ max_file }
+        ensures ok { OnOk result (self.new ≡ replaced fid.0 (resized (stored self.old fid.0) length) self.old) }
+        ensures err { OnErr result (self.new ≡ self.old) }
+    {
+        let Some(file) = self.files.get_mut(&fid.0) else {
+            return Ok(());
+        };
+        resize_file(alloc, self.block, &mut self.store, file, length)
+    }
+
+    /// At most `len` bytes of a file from byte `offset` on: fewer where the file ends before.
+    pub fn read(&self, alloc: Global, fid: Fid, offset: u32, len: u32) -> Mem<ByteList>
+        requires { IsSome (look fid.0 self.now) }
+        ensures { IfOk result (λ bytes. bytes ≡ take len (drop offset (stored self.now fid.0))) }
+    {
+        let Some(file) = self.files.get(&fid.0) else {
+            return ByteList::new(alloc);
+        };
+        let end = file.length.min(offset.saturating_add(len));
+        let start = offset.min(end);
+        let bytes = read_file(alloc, self.block, &self.store, file, start, end)?;
+        Ok(ByteList::of(bytes))
+    }
+}

@@ -1,0 +1,10 @@
+pub mod Marks
+pub mod Short
+pub mod NextLine
+pub mod FirstLines
+pub mod Taking
+pub mod Printing
+pub mod Running
+pub mod FirstHeader
+pub mod Whole
+pub mod Closing

@@ -1,0 +1,16 @@
+use Rattle.std.proofs.Common.{◌≡◌, ℕ, ◌+◌, ◌-◌, ◌≤◌, cond, List, length}
+use Rattle.std.specs.Prelude.{IsTrue}
+use Rattle.zebra.specs.Moves.{Tape, tape, IsRead}
+use Rattle.zebra.proofs.run.fill.Given as goal
+
+abbrev pub invariant-takes : goal.invariant-takes
+invariant-takes g l =
+    (l.world.seen ≡ l.fn.world.seen)
+    × (l.source.used ≡ l.fn.source.used)
+    × (IsTrue g.O.Outside.tells → (start : Tape) (front : List ℕ) → IsRead start front l.fn.source (tape (g.O.Outside.streams l.fn.world.out) (g.O.Outside.meaning l.fn.world.out)) → IsRead start front l.source (tape (g.O.Outside.streams l.world.out) (g.O.Outside.meaning l.world.out)))
+    × (IsTrue g.O.Outside.tells → (g.O.Outside.meaning l.world.out).now.printed ≡ (g.O.Outside.meaning l.fn.world.out).now.printed)
+    × ((g.O.Outside.streams l.fn.world.out).read_faults ≤ (g.O.Outside.streams l.world.out).read_faults)
+    × ((g.O.Outside.streams l.world.out).write_faults ≡ (g.O.Outside.streams l.fn.world.out).write_faults)
+
+abbrev pub decreases-takes : goal.decreases-takes
+decreases-takes g l = (17001 - length l.source.rest) + cond l.source.ended 0 1

@@ -1,2 +1,9 @@
-pub mod Notes
-pub mod Telling
+pub mod Blown
+pub mod Called
+pub mod Chosen
+pub mod Kept
+pub mod Plates
+pub mod Recorded
+pub mod Runs
+pub mod Streamed
+pub mod Time

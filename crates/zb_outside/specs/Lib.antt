@@ -1,6 +1,15 @@
+pub mod Answers
+pub mod Counts
 pub mod FileOutside
-pub mod Meaning
+pub mod Fuse
+pub mod Images
 pub mod MemOutside
+pub mod Meaning
 pub mod Memory
+pub mod Plates
+pub mod Platters
+pub mod Ranges
+pub mod Record
+pub mod Runs
 pub mod Streams
 pub mod Untold

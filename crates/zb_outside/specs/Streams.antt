@@ -8,6 +8,10 @@ pub record Streams : Type 0 where
   pub read_faults : ℕ
   pub write_faults : ℕ
 
+-- where there are no streams
+abbrev pub no_streams : Streams
+no_streams = record { left = []; read_faults = 0; write_faults = 0 }
+
 -- what moments count of the streams is what is told of them
 pub record AreCounted (now : Standing) (streams : Streams) : Type 0 where
   pub read_faults : now.read_faults ≡ streams.read_faults

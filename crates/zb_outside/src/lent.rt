@@ -1,14 +1,51 @@
-// An outside behind a reference.
+// A bay and an outside behind a reference.
+use crate::bay::Bay;
 use crate::outside::Outside;
 use zb_types::Failed;
 
+impl<B: Bay> Bay for &mut B {
+    ghost tells = { B.tells };
+
+    ghost meaning = { λ b. B.meaning b.now };
+
+    ghost streams = { λ b. B.streams b.now };
+
+    ghost faults = { λ b. B.faults b.now };
+
+    ghost writes = { λ b. B.writes b.now };
+
+    ghost is_exact = { B.is_exact };
+
+    ghost follows = { λ a b. B.follows a.now b.now };
+
+    fn read_at(&mut self, platter: usize, place: u64, buf: &mut [u8]) -> Result<(), Failed> {
+        Bay::read_at(&mut **self, platter, place, buf)
+    }
+
+    fn write_at(&mut self, platter: usize, place: u64, bytes: &[u8]) -> Result<(), Failed> {
+        Bay::write_at(&mut **self, platter, place, bytes)
+    }
+
+    fn sync(&mut self, platter: usize) -> Result<(), Failed> {
+        Bay::sync(&mut **self, platter)
+    }
+
+    fn restart(&mut self, platter: usize) -> Result<(), Failed> {
+        Bay::restart(&mut **self, platter)
+    }
+
+    fn blank(&mut self, platter: usize) -> Result<(), Failed> {
+        Bay::blank(&mut **self, platter)
+    }
+
+    ghost follows_same = { λ a. B.follows_same a.now };
+
+    ghost follows_then = { λ a b c. B.follows_then a.now b.now c.now };
+
+    ghost exact = { λ b. B.exact b.now };
+}
+
 impl<O: Outside> Outside for &mut O {
-    ghost tells = { O.tells };
-
-    ghost meaning = { λ o. O.meaning o.now };
-
-    ghost streams = { λ o. O.streams o.now };
-
     fn take(&mut self, buf: &mut [u8]) -> Result<usize, Failed> {
         Outside::take(&mut **self, buf)
     }

@@ -1,0 +1,177 @@
+ghost use Rattle.std.specs.Prelude.{◌≡◌, ◌≢◌, ◌↔◌, ◌≤◌, ◌<◌, ◌+◌, ◌^◌, ◌&&◌, ◌==◌, true, false, ℕ, List, length, None, Some, MatchOption, IsTrue, IfOk, OnOk, IsErrOf, slice_index};
+ghost use Rattle.zb_outside.specs.Streams.{Rose};
+ghost use Rattle.zb_outside.specs.Counts.{HasCause};
+ghost use Rattle.zb_outside.specs.Runs.{IsSettled, Held};
+ghost use Rattle.zb_cell.specs.Cell.{value, value_of, bytes_at, counts, following, window};
+ghost use Rattle.zb_cell.specs.Set.{SetTold, CloseTold, IsReady, Others};
+ghost use Rattle.zb_cell.specs.declared.cell.CellFault.TheVariants.{Blank, Stopped};
+ghost use Rattle.zb_cell.specs.Work.{Works};
+
+use zb_outside::{Bay, write_synced};
+use zb_types::Failed;
+
+/// Why a cell has no answer.
+#[derive(Clone, Copy, Debug, PartialEq, Eq, Drop)]
+pub enum CellFault {
+    /// The cell has no value.
+    Blank,
+    /// A call of the platter failed.
+    Stopped,
+}
+
+impl From<Failed> for CellFault {
+    ghost from_gives = { λ _ e. e ≡ Stopped };
+
+    fn from(_: Failed) -> Self {
+        CellFault::Stopped
+    }
+}
+
+// The copy that a change is written to.
+#[derive(Clone, Copy, Drop)]
+struct Work {
+    // 0 or 64
+    at: u64,
+    turn: u8,
+    is_open: bool,
+}
+
+fn is_counted(bytes: &[u8; 128], at: usize) -> bool
+    requires { at ≤ 64 }
+    ensures { result ≡ counts (slice_index bytes.now) at }
+{
+    bytes[at] == 1 && bytes[at + 1] < 3
+}
+
+fn next(turn: u8) -> u8
+    requires { turn < 3 }
+    ensures { result ≡ following turn }
+{
+    (turn + 1) % 3
+}
+
+fn work_on(bytes: &[u8; 128]) -> Work
+    ensures { Works (slice_index bytes.now) result }
+{
+    let first = is_counted(bytes, 0);
+    let second = is_counted(bytes, 64);
+    if first && !(second && bytes[65] == next(bytes[1])) {
+        return Work {
+            at: 64,
+            turn: next(bytes[1]),
+            is_open: bytes[64] == 1,
+        };
+    }
+    Work {
+        at: 0,
+        turn: if second { next(bytes[65]) } else { 0 },
+        is_open: bytes[0] == 1,
+    }
+}
+
+// Bytes 1 to 63 of a copy.
+fn body(turn: u8, payload: &[u8; 40]) -> [u8; 63]
+    ensures long { length result ≡ 63 }
+    ensures turn { slice_index result 0 ≡ turn }
+    ensures payload { (i : ℕ) → i < 40 → slice_index result (7 + i) ≡ slice_index payload.now i }
+{
+    let mut bytes = [0; 63];
+    bytes[0] = turn;
+    for (i, byte) in payload.iter().enumerate() {
+        bytes[7 + i] = *byte;
+    }
+    bytes
+}
+
+fn close_gate<B: Bay>(bay: &mut B, platter: usize, place: u64, is_open: bool) -> Result<(), Failed>
+    requires platter { platter ≤ 255 }
+    requires range { place + 1 ≤ 2 ^ 63 }
+    ensures told { IsTrue B.tells → IsReady platter place is_open (B.meaning bay.old).now → CloseTold platter place result (B.meaning bay.old) (B.meaning bay.new) }
+    ensures cause { HasCause platter result (B.faults bay.old) (B.faults bay.new) }
+    ensures writes { (q : ℕ) → q ≢ platter → B.writes bay.new q ≡ B.writes bay.old q }
+    ensures streams { B.streams bay.new ≡ B.streams bay.old }
+    ensures follows { B.follows bay.old bay.new }
+{
+    if !is_open {
+        return Ok(());
+    }
+    write_synced(bay, platter, place, &[0])
+}
+
+/// Puts a value into the cell of 128 bytes at this place. Where no write of the platter is unsynced and the cell lies
+/// within the platter, it holds at each moment the former value or this one, every other byte stays, and after Ok it holds
+/// this one with nothing unsynced.
+///
+/// `Stopped` comes only where a call of the platter failed.
+pub fn set<B: Bay>(
+    bay: &mut B,
+    platter: usize,
+    place: u64,
+    payload: &[u8; 40],
+) -> Result<(), CellFault>
+    requires platter { platter ≤ 255 }
+    requires range { place + 128 ≤ 2 ^ 63 }
+    ensures told { IsTrue B.tells → IsSettled platter (B.meaning bay.old).now → place + 128 ≤ length ((B.meaning bay.old).now.seen platter) → SetTold platter place payload.now result (B.meaning bay.old) (B.meaning bay.new) }
+    ensures blank { IsErrOf result CellFault.Blank → ⊥ }
+    ensures stopped { IsErrOf result CellFault.Stopped → Rose (B.faults bay.old platter) (B.faults bay.new platter) }
+    ensures faults { Others platter (B.faults bay.old) (B.faults bay.new) }
+    ensures writes { (q : ℕ) → q ≢ platter → B.writes bay.new q ≡ B.writes bay.old q }
+    ensures streams { B.streams bay.new ≡ B.streams bay.old }
+    ensures follows { B.follows bay.old bay.new }
+{
+    let mut bytes = [0; 128];
+    bay.read_at(platter, place, &mut bytes)?;
+    let work = work_on(&bytes);
+    close_gate(bay, platter, place + work.at, work.is_open)?;
+    let next = body(work.turn, payload);
+    write_synced(bay, platter, place + work.at + 1, &next)?;
+    write_synced(bay, platter, place + work.at, &[1])?;
+    Ok(())
+}
+
+// Where the copy that holds the value stands.
+fn holder(bytes: &[u8; 128]) -> Option<usize>
+    ensures { MatchOption result (value_of (slice_index bytes.now) ≡ None) (λ at. (at ≤ 64) × (value_of (slice_index bytes.now) ≡ Some (window (slice_index bytes.now) (at + 8) 40))) }
+{
+    let first = is_counted(bytes, 0);
+    let second = is_counted(bytes, 64);
+    if second && (!first || bytes[65] == next(bytes[1])) {
+        return Some(64);
+    }
+    if first { Some(0) } else { None }
+}
+
+// The payload of the copy at `at`.
+fn payload_at(bytes: &[u8; 128], at: usize) -> [u8; 40]
+    requires { at ≤ 64 }
+    ensures { result ≡ window (slice_index bytes.now) (at + 8) 40 }
+{
+    let mut payload = [0; 40];
+    for i in 0..40 {
+        payload[i] = bytes[at + 8 + i];
+    }
+    payload
+}
+
+/// The value of the cell of 128 bytes at this place.
+///
+/// `Blank` comes where the cell has no value, and `Stopped` only where a call of the platter failed.
+pub fn get<B: Bay>(bay: &mut B, platter: usize, place: u64) -> Result<[u8; 40], CellFault>
+    requires platter { platter ≤ 255 }
+    requires range { place + 128 ≤ 2 ^ 63 }
+    ensures told { IsTrue B.tells → Held platter (B.meaning bay.old) (B.meaning bay.new) }
+    ensures value { IsTrue B.tells → IfOk result (λ payload. value ((B.meaning bay.old).now.seen platter) place ≡ Some payload) }
+    ensures blank { IsTrue B.tells → IsErrOf result Blank → value ((B.meaning bay.old).now.seen platter) place ≡ None }
+    ensures stopped { IsErrOf result Stopped → Rose (B.faults bay.old platter) (B.faults bay.new platter) }
+    ensures faults { Others platter (B.faults bay.old) (B.faults bay.new) }
+    ensures writes { (q : ℕ) → B.writes bay.new q ≡ B.writes bay.old q }
+    ensures streams { B.streams bay.new ≡ B.streams bay.old }
+    ensures follows { B.follows bay.old bay.new }
+{
+    let mut bytes = [0; 128];
+    bay.read_at(platter, place, &mut bytes)?;
+    match holder(&bytes) {
+        Some(at) => Ok(payload_at(&bytes, at)),
+        None => Err(CellFault::Blank),
+    }
+}

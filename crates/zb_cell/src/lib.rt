@@ -1,0 +1,10 @@
+//! A cell of 128 bytes that holds 40, and that changes from one value to the next with none between.
+#![tactic(auto)]
+
+mod cell;
+mod laws;
+#[cfg(test)]
+mod tests;
+
+pub use cell::{CellFault, get, set};
+pub use laws::cell_depends_on_its_bytes;

@@ -1,0 +1,72 @@
+-- What callers see of fuses, and what calls may do to them.
+use Rattle.std.specs.Prelude.{◌≡◌, ◌⊎◌, ◌+◌, ◌-◌, ◌^◌, ◌≤◌, ◌<◌, min, ℕ, Bool, IsTrue, List, slice_index}
+use Rattle.std.proofs.Common.{refl, ◌∙◌, inl, inr, ⊎_elim, arith}
+use Rattle.std.proofs.lemmas.Bool.{cases_lt}
+use Rattle.zb_outside.specs.Meaning.{Meaning}
+use Rattle.zb_outside.specs.Ranges.{Written}
+use Rattle.zb_outside.specs.Counts.{Raises}
+use Rattle.zb_outside.specs.Streams.{Rose}
+use Rattle.zb_outside.specs.declared.fused.Fused.{Fused}
+
+-- the device behind the fuses
+abbrev pub inner_of : {B : Type 0} → Fused B → B
+inner_of f = f.inner
+
+-- 0 where platter p isn't armed, 1 where its fuse has blown, and n + 1 where its n-th write from now blows it
+abbrev pub left_of : {B : Type 0} → Fused B → ℕ → ℕ
+left_of f p = slice_index f.left p
+
+-- how many calls of platter p a fuse has failed
+abbrev pub raised_of : {B : Type 0} → Fused B → ℕ → ℕ
+raised_of f p = slice_index f.raised p
+
+-- how many writes of platter p a fuse has held back
+abbrev pub held_of : {B : Type 0} → Fused B → ℕ → ℕ
+held_of f p = slice_index f.held p
+
+-- One that isn't armed stays so and fails nothing; one that is armed burns down by no more than the writes that came,
+-- and fails nothing before it has blown.
+pub record FuseFollows {B : Type 0} (writes : B → ℕ → ℕ) (follows : B → B → Type 0) (old new : Fused B) : Type 0 where
+  pub inner : follows old.inner new.inner
+  pub off : (p : ℕ) → left_of old p ≡ 0 → (left_of new p ≡ 0) × (raised_of new p ≡ raised_of old p)
+  pub on : (p : ℕ) → 1 ≤ left_of old p → (1 ≤ left_of new p) × (left_of new p ≤ left_of old p)
+  pub rises : (p : ℕ) → writes old.inner p ≤ writes new.inner p
+  pub burns : (p : ℕ) → 1 ≤ left_of old p → (left_of old p + writes old.inner p ≤ left_of new p + writes new.inner p) ⊎ (2 ^ 64 - 1 ≤ writes new.inner p)
+  pub blown : (p : ℕ) → 1 < left_of new p → raised_of new p ≡ raised_of old p
+
+-- what failed at the device and at its fuses
+abbrev pub all_faults : {B : Type 0} → (B → ℕ → ℕ) → Fused B → ℕ → ℕ
+all_faults faults f p = faults f.inner p + raised_of f p
+
+-- the writes that the device was asked for and those that were held back, up to the last value of a u64
+abbrev pub all_writes : {B : Type 0} → (B → ℕ → ℕ) → Fused B → ℕ → ℕ
+all_writes writes f p = min (writes f.inner p + held_of f p) (2 ^ 64 - 1)
+
+-- the device was asked to write these bytes, and wrote them where it didn't fail itself
+pub record PassesWrite {B : Type 0} (tells : Bool) (p at : ℕ) (bytes : List ℕ) (meaning : B → Meaning) (faults writes : B → ℕ → ℕ) (old new : B) : Type 0 where
+  pub counted : Raises p (writes old) (writes new)
+  pub written : IsTrue tells → Written at bytes ((meaning old).now.seen p) ((meaning new).now.seen p) ⊎ Rose (faults old p) (faults new p)
+
+pub fuse_same : {B : Type 0} (writes : B → ℕ → ℕ) (follows : B → B → Type 0) → ((b : B) → follows b b) → (a : Fused B) → FuseFollows writes follows a a
+fuse_same writes follows same a = record {
+  inner = same a.inner;
+  off = λ p h. (h, refl);
+  on = λ p h. (h, omega arith);
+  rises = λ p. omega arith;
+  burns = λ p h. inl (omega arith);
+  blown = λ p h. refl;
+}
+
+pub fuse_then : {B : Type 0} (writes : B → ℕ → ℕ) (follows : B → B → Type 0) → ((a b c : B) → follows a b → follows b c → follows a c) → (a b c : Fused B) → FuseFollows writes follows a b → FuseFollows writes follows b c → FuseFollows writes follows a c
+fuse_then writes follows join a b c f g = record {
+  inner = join a.inner b.inner c.inner f.inner g.inner;
+  off = λ p h. let k = f.off p h in let m = g.off p k.0 in (m.0, m.1 ∙ k.1);
+  on = λ p h. let k = f.on p h in let m = g.on p k.0 in (m.0, omega (arith, k.1, m.1));
+  rises = λ p. omega (arith, f.rises p, g.rises p);
+  burns = λ p h. let k = f.on p h in
+      ⊎_elim (λ x. ⊎_elim (λ y. inl (omega (arith, x, y))) (λ y. inr y) (g.burns p k.0)) (λ x. inr (omega (arith, x, g.rises p))) (f.burns p h);
+  blown = λ p h. g.blown p h ∙ f.blown p (elim (cases_lt 0 (left_of b p)) [
+    | inl some ↦ omega (arith, (g.on p some).1, h)
+    | inr none ↦ absurd (omega (arith, (g.off p (omega arith)).0, h))
+  ]);
+}

@@ -1,0 +1,4 @@
+pub mod Changing
+pub mod Super
+pub mod Tidy
+pub mod Zeros

@@ -1,0 +1,43 @@
+-- A server's platter as a map of fragments.
+use Rattle.std.specs.Prelude.{◌≡◌, ◌≢◌, ℕ, ◌<◌, ◌≤◌, if◌then◌else◌, List, length, Option}
+use Rattle.zb_types.specs.declared.geometry.Geometry.{Geometry}
+use Rattle.zb_types.specs.declared.ids.FragId.{FragId}
+use Rattle.zb_stripes.specs.Carrying.{same_frag}
+use Rattle.zb_stripes.specs.Fragments.{Fragment}
+use Rattle.zb_slots.specs.Slots.{Slot, Stored, bad_slot, full_slot, slot_place, slots_of}
+use Rattle.zb_slots.specs.Holding.{fragments_of, free_slots, IsBad}
+
+-- the slots of an image
+abbrev pub slots_in : Geometry → List ℕ → ℕ → Slot
+slots_in geo image = slots_of geo.servers geo.fragment image
+
+-- the fragments that an image holds
+abbrev pub map_of : Geometry → List ℕ → FragId → Option Fragment
+map_of geo image = fragments_of geo.servers geo.fragment geo.slots image
+
+-- how many slots of an image are free
+abbrev pub free_of : Geometry → List ℕ → ℕ
+free_of geo image = free_slots geo.servers geo.fragment geo.slots image
+
+-- all slots lie within the image
+abbrev pub IsLarge : Geometry → List ℕ → Type 0
+IsLarge geo image = slot_place geo.fragment geo.slots ≤ length image
+
+-- all slots lie within the image, and none is bad
+pub record IsSound (geo : Geometry) (image : List ℕ) : Type 0 where
+  pub large : IsLarge geo image
+  pub good : (j : ℕ) → j < geo.slots → IsBad (slots_in geo image) geo.slots j → ⊥
+
+-- of the first n slots none has a bad header, and no two hold one name
+pub record AreTidy (n : ℕ) (slots : ℕ → Slot) : Type 0 where
+  pub good : (j : ℕ) → j < n → slots j ≢ bad_slot
+  pub once : (i j : ℕ) (a b : Stored) → i < n → j < n → slots i ≡ full_slot a → slots j ≡ full_slot b → a.id ≡ b.id → i ≡ j
+
+-- all slots lie within the image, and they are tidy
+pub record IsTidy (geo : Geometry) (image : List ℕ) : Type 0 where
+  pub large : IsLarge geo image
+  pub slots : AreTidy geo.slots (slots_in geo image)
+
+-- a map with this under a name
+abbrev pub put : FragId → Option Fragment → (FragId → Option Fragment) → FragId → Option Fragment
+put id fragment map other = if same_frag id other then fragment else map other

@@ -1,0 +1,52 @@
+ghost use Rattle.std.specs.Prelude.{◌≡◌, ◌≢◌, ◌≤◌, ◌<◌, ◌+◌, ◌-◌, ℕ, List, Some, drop, length, IsTrue};
+ghost use Rattle.zb_outside.specs.Counts.{HasCause};
+ghost use Rattle.zb_cell.specs.Cell.{following};
+ghost use Rattle.zb_stripes.specs.Fragments.{parity_fragment};
+ghost use Rattle.zb_slots.specs.Slots.{free_slot};
+ghost use Rattle.zb_slot.specs.Area.{lengths_in};
+ghost use Rattle.zb_slot.specs.Changing.{parity_slot};
+ghost use Rattle.zb_platter.specs.Tidy.{slots_in, map_of, put};
+ghost use Rattle.zb_platter.specs.Changing.{IsKept, ReplaceTold};
+
+use crate::place::place_of;
+use zb_outside::Bay;
+use zb_slot::{free, store_parity};
+use zb_types::{Failed, FragId, Geometry};
+
+/// The slot of a parity, and its turn, 0 to 2.
+#[derive(Clone, Copy, Debug, PartialEq, Eq)]
+pub struct ParitySlot {
+    pub slot: u32,
+    pub turn: u8,
+}
+
+/// Replaces a parity, whose slot and turn the caller knows, by one in a free slot with the turn that follows, and then
+/// frees the former slot. At each moment the map has the former parity or the new one.
+///
+/// `Failed` comes only where a call of the platter failed.
+pub fn replace_parity_at<B: Bay>(
+    bay: &mut B,
+    geo: &Geometry,
+    platter: usize,
+    former: ParitySlot,
+    slot: u32,
+    id: FragId,
+    area: &[u8],
+) -> Result<(), Failed>
+    requires platter { platter ≤ 255 }
+    requires former { former.slot < geo.now.slots }
+    requires turn { former.turn < 3 }
+    requires slot { slot < geo.now.slots }
+    requires parity { id.index + 1 ≡ geo.now.servers }
+    requires lengths { 64 ≤ length area.now }
+    requires room { length area.now ≤ 64 + geo.now.fragment }
+    ensures told { IsTrue B.tells → IsKept geo.now platter (B.meaning bay.old).now → (covered bytes : List ℕ) → let image = (B.meaning bay.old).now.seen platter in let lengths = lengths_in (geo.now.servers - 1) area.now in slots_in geo.now image former.slot ≡ parity_slot id former.turn covered bytes → slots_in geo.now image slot ≡ free_slot → ReplaceTold geo.now platter former.slot slot (parity_slot id (following former.turn) lengths (drop 64 area.now)) (put id (Some (parity_fragment lengths (drop 64 area.now))) (map_of geo.now image)) result (B.meaning bay.old) (B.meaning bay.new) }
+    ensures cause { HasCause platter result (B.faults bay.old) (B.faults bay.new) }
+    ensures writes { (q : ℕ) → q ≢ platter → B.writes bay.new q ≡ B.writes bay.old q }
+    ensures streams { B.streams bay.new ≡ B.streams bay.old }
+    ensures follows { B.follows bay.old bay.new }
+{
+    let turn = (former.turn + 1) % 3;
+    store_parity(bay, geo, platter, place_of(geo, slot), id, turn, area)?;
+    free(bay, geo, platter, place_of(geo, former.slot))
+}

@@ -1,0 +1,4 @@
+pub mod Headers
+pub mod Holding
+pub mod Laws
+pub mod Slots

@@ -1,3 +1,5 @@
 pub mod Placing
 pub mod Exclusive
 pub mod Fragments
+pub mod Holding
+pub mod Carrying

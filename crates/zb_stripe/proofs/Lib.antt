@@ -1,0 +1,4 @@
+pub mod Ending
+pub mod Gained
+pub mod Making
+pub mod Seeking

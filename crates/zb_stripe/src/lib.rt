@@ -1,0 +1,14 @@
+//! Plans of requests: those that write the stripes of a flush, and those that read the bytes of a pointer.
+#![tactic(auto)]
+
+mod flush;
+mod parity;
+mod progress;
+mod read;
+mod source;
+mod write;
+
+pub use flush::{Flush, Part, PartList};
+pub use progress::Phase;
+pub use read::{Got, ReadPlan};
+pub use write::{Fed, WritePlan};

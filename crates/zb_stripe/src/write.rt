@@ -1,0 +1,295 @@
+ghost use Rattle.std.specs.Prelude.{◌≡◌, ℕ, ◌-◌, ◌<◌, ◌++◌, IfOk, OnOk, length, All, option_map, slice_get};
+ghost use Rattle.zb_stripes.specs.Holding.{is_away};
+ghost use Rattle.zb_stripe.specs.Writing.{grow, share_request, parity_request, part_requests, plan_requests, IsWritable};
+ghost use Rattle.zb_stripe.specs.Feeding.{fed_by, left_after, AnswersWrite, CanFeed};
+
+use crate::flush::{Flush, Part};
+use crate::parity::{lengths, parity};
+use std::alloc::Global;
+use std::marker::Model;
+use zb_layout::{server_of, share};
+use zb_types::{
+    ByteList, Class, FragId, Geometry, LogId, Mem, Request, Response, ServerId, StoreFault,
+};
+
+/// What an answer makes of a write.
+#[derive(Clone, Copy, Debug, PartialEq, Eq)]
+pub enum Fed {
+    /// Another request stands.
+    More,
+    /// All requests are carried out.
+    Done,
+    /// The server is down or blank.
+    Down { server: ServerId },
+    /// The server has no slot for who asks; `free` are free.
+    NoSpace { server: ServerId, free: u32 },
+    /// A server has a fence at generation `now`.
+    Old { now: u64 },
+    /// A server wanted memory.
+    NoMemory,
+}
+
+/// The requests that write a flush, of which contracts see those that are left, each with its server.
+#[derive(Drop)]
+pub struct WritePlan {
+    requests: Vec<(ServerId, Request)>,
+    at: usize,
+}
+
+impl Model for WritePlan {
+    ghost use Rattle.std.specs.Prelude.{List, ◌≤◌, drop, length};
+    ghost use Rattle.zb_types.specs.declared.ids.ServerId.{ServerId};
+    ghost use Rattle.zb_types.specs.declared.requests.Request.{Request};
+
+    ghost Value = { List (ServerId × Request) };
+
+    ghost view = { λ a. drop a.at a.requests.items };
+
+    ghost invariant = { λ a. a.at ≤ length a.requests.items };
+}
+
+/// What all requests of a plan share: the sizes, the log, the server that is left away, and who asks.
+#[derive(Clone, Copy)]
+pub(crate) struct Setting {
+    geo: Geometry,
+    log: LogId,
+    out: Option<ServerId>,
+    class: Class,
+}
+
+/// Whether a server is the one that is left away.
+pub(crate) fn is_out(out: Option<ServerId>, server: ServerId) -> bool
+    ensures { result ≡ is_away out server }
+{
+    match out {
+        Some(gone) => gone.0 == server.0,
+        None => false,
+    }
+}
+
+/// What adds bytes to a share that has some.
+fn grow(id: FragId, class: Class, had: u32, bytes: ByteList) -> Request
+    ensures { result ≡ grow id class had bytes }
+{
+    if had == 0 {
+        Request::Store { id, bytes, class }
+    } else {
+        Request::Append {
+            id,
+            place: had,
+            bytes,
+        }
+    }
+}
+
+/// Adds the request for share `k`, where it has new bytes and its server isn't left away.
+fn push_share(
+    requests: &mut Vec<(ServerId, Request)>,
+    alloc: Global,
+    to: Setting,
+    part: &Part,
+    k: u8,
+) -> Mem<()>
+    requires fits { IsWritable to.geo.servers to.geo.fragment part.now }
+    requires index { k < to.geo.servers - 1 }
+    ensures { OnOk result
+        (requests.new.items
+        ≡ requests.old.items ++ share_request to.geo.servers to.geo.fragment to.out to.class to.log part.now k) }
+{
+    let had = share(&to.geo, part.begin, k);
+    let all = share(&to.geo, part.bytes.len() as u32, k);
+    if all <= had {
+        return Ok(());
+    }
+    let id = FragId {
+        log: to.log,
+        stripe: part.stripe,
+        index: k,
+    };
+    let server = server_of(&to.geo, id);
+    if is_out(to.out, server) {
+        return Ok(());
+    }
+    let from = usize::from(k) * to.geo.fragment as usize;
+    let new = &part.bytes.slice()[from + had as usize..from + all as usize];
+    let bytes = ByteList::from_slice(alloc, new)?;
+    requests.push((server, grow(id, to.class, had, bytes)))?;
+    Ok(())
+}
+
+/// Adds the request for the parity, where its server isn't left away.
+fn push_parity(
+    requests: &mut Vec<(ServerId, Request)>,
+    alloc: Global,
+    to: Setting,
+    part: &Part,
+) -> Mem<()>
+    requires fits { IsWritable to.geo.servers to.geo.fragment part.now }
+    ensures { OnOk result
+        (requests.new.items
+        ≡ requests.old.items ++ parity_request to.geo.servers to.geo.fragment to.out to.class to.log part.now) }
+{
+    let id = FragId {
+        log: to.log,
+        stripe: part.stripe,
+        index: (to.geo.servers - 1) as u8,
+    };
+    let server = server_of(&to.geo, id);
+    if is_out(to.out, server) {
+        return Ok(());
+    }
+    let lengths = lengths(alloc, &to.geo, part.bytes.len() as u32)?;
+    let bytes = parity(alloc, &to.geo, part.bytes.slice())?;
+    let request = Request::Parity {
+        id,
+        lengths,
+        bytes,
+        class: to.class,
+    };
+    requests.push((server, request))?;
+    Ok(())
+}
+
+/// Adds the requests of a part.
+fn push_part(
+    requests: &mut Vec<(ServerId, Request)>,
+    alloc: Global,
+    to: Setting,
+    part: &Part,
+) -> Mem<()>
+    requires fits { IsWritable to.geo.servers to.geo.fragment part.now }
+    ensures { OnOk result
+        (requests.new.items
+        ≡ requests.old.items ++ part_requests to.geo.servers to.geo.fragment to.out to.class to.log part.now) }
+{
+    for k in 0..(to.geo.servers - 1) as u8 {
+        push_share(requests, alloc, to, part, k)?;
+    }
+    push_parity(requests, alloc, to, part)
+}
+
+impl WritePlan {
+    /// For each part in order its new bytes by share, then its parity over all its bytes. Requests to `out`, the server
+    /// that is left away, are left out; the parity covers its share as if it were sent. The slots are asked for as
+    /// `class`.
+    pub fn new(
+        alloc: Global,
+        geo: &Geometry,
+        flush: &Flush,
+        out: Option<ServerId>,
+        class: Class,
+    ) -> Mem<WritePlan>
+        requires { All (IsWritable geo.now.servers geo.now.fragment) flush.now.parts }
+        ensures { IfOk result (λ plan. plan
+            ≡ plan_requests geo.now.servers geo.now.fragment out class flush.now) }
+    {
+        let to = Setting {
+            geo: *geo,
+            log: flush.log,
+            out,
+            class,
+        };
+        let mut requests = Vec::new(alloc);
+        for part in flush.parts.slice() {
+            push_part(&mut requests, alloc, to, part)?;
+        }
+        Ok(WritePlan { requests, at: 0 })
+    }
+
+    /// The request that stands, with the server that it goes to. None where all are carried out.
+    pub fn next(&self) -> Option<(ServerId, &Request)>
+        ensures { option_map (λ p. (p.0, p.1.now)) result ≡ slice_get self.now 0 }
+    {
+        match self.requests.as_slice().get(self.at) {
+            Some((server, request)) => Some((*server, request)),
+            None => None,
+        }
+    }
+
+    /// Takes the answer to the request that stands. Only `Done` goes on to the next; after any other the plan is as before.
+    pub fn feed(&mut self, response: &Response) -> Fed
+        requires { CanFeed self.old response.now }
+        ensures fed { result ≡ fed_by self.old response.now }
+        ensures left { self.new ≡ left_after self.old response.now }
+    {
+        let server = self.requests[self.at].0;
+        match response {
+            Response::Done => {
+                self.at += 1;
+                if self.at < self.requests.len() {
+                    Fed::More
+                } else {
+                    Fed::Done
+                }
+            }
+            Response::Refused(StoreFault::NoSlot { free }) => Fed::NoSpace {
+                server,
+                free: *free,
+            },
+            Response::Refused(StoreFault::OldGeneration { now }) => Fed::Old { now: *now },
+            Response::Refused(StoreFault::NoMemory) => Fed::NoMemory,
+            _ => Fed::Down { server },
+        }
+    }
+}
+
+#[cfg(test)]
+mod tests {
+    use super::*;
+    use crate::flush::PartList;
+    use std::test::Fail;
+
+    /// Writes 10 bytes behind the first 250 of a stripe with fragments of 256 bytes.
+    fn plan(alloc: Global, geo: &Geometry, out: Option<ServerId>) -> Mem<WritePlan>
+        requires servers { geo.now.servers ≡ 3 }
+        requires fragment { geo.now.fragment ≡ 256 }
+    {
+        let bytes = vec![in alloc; 7u8; 260]?;
+        let mut parts = PartList::new(alloc)?;
+        parts.push(Part {
+            stripe: 0,
+            begin: 250,
+            bytes: ByteList::of(bytes),
+        })?;
+        let flush = Flush {
+            log: LogId(1),
+            parts,
+        };
+        WritePlan::new(alloc, geo, &flush, out, Class::Client)
+    }
+
+    /// Feeds one answer, and gives the server that was asked with what the answer comes to.
+    fn step(plan: &mut WritePlan, response: &Response) -> Option<(u8, Fed)>
+        requires { AnswersWrite response.now }
+    {
+        let server = match plan.next() {
+            Some((server, _)) => server.0,
+            None => return None,
+        };
+        Some((server, plan.feed(response)))
+    }
+
+    #[test]
+    fn data_comes_before_parity(rt: HostRuntime) -> Result<(), Fail> {
+        let geo = Geometry::new(3, 1, 256, 64, 8)?;
+        let mut plan = plan(rt.alloc(), &geo, None)?;
+        for (server, fed) in [(2, Fed::More), (3, Fed::More), (1, Fed::Done)] {
+            assert_eq!(rt; step(&mut plan, &Response::Done), Some((server, fed)));
+        }
+        assert_eq!(rt; step(&mut plan, &Response::Done), None);
+        Ok(())
+    }
+
+    #[test]
+    fn a_server_is_left_away(rt: HostRuntime) -> Result<(), Fail> {
+        let geo = Geometry::new(3, 1, 256, 64, 8)?;
+        let mut plan = plan(rt.alloc(), &geo, Some(ServerId(2)))?;
+        let old = Response::Refused(StoreFault::OldGeneration { now: 5 });
+        assert_eq!(rt; step(&mut plan, &old), Some((3, Fed::Old { now: 5 })));
+        let down = Fed::Down {
+            server: ServerId(3),
+        };
+        assert_eq!(rt; step(&mut plan, &Response::Blank), Some((3, down)));
+        Ok(())
+    }
+}

@@ -1,0 +1,15 @@
+pub mod Agreeing
+pub mod Away
+pub mod Carrying
+pub mod Cutting
+pub mod Elsewhere
+pub mod Gathering
+pub mod Growing
+pub mod Keeping
+pub mod Mended
+pub mod NotEmpty
+pub mod Ongoing
+pub mod Ranges
+pub mod Rebuilt
+pub mod Seeing
+pub mod Working

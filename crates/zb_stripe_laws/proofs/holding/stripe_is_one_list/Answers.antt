@@ -1,0 +1,15 @@
+use Rattle.std.proofs.Common.{◌-◌, sym, ◌∙◌, arith}
+use Rattle.zb_stripes.specs.Holding.{standing, away_at}
+use Rattle.zb_stripe_laws.proofs.Away.{away_once}
+use Rattle.zb_stripe_laws.proofs.Agreeing.{stripe_agrees}
+use Rattle.zb_stripe_laws.proofs.holding.stripe_is_one_list.Goals as goal
+
+pub returns-clause-agree : goal.returns-clause-agree
+returns-clause-agree c n f maps x log stripe end one other two pos a b =
+    stripe_agrees (n - 1) f (standing n maps log stripe) (away_at n x log stripe) end pos one other
+    (λ j k jn kn. away_once n x log stripe j k (omega arith) (omega arith)) a b
+
+pub returns-clause-one : goal.returns-clause-one
+returns-clause-one c n f maps x log stripe end one other two pos a b =
+    a.first ∙ stripe_agrees (n - 1) f (standing n maps log stripe) (away_at n x log stripe) end pos a.bytes b.bytes
+    (λ j k jn kn. away_once n x log stripe j k (omega arith) (omega arith)) a.held b.held ∙ sym b.first

@@ -1,0 +1,3 @@
+pub mod PartAtWork
+pub mod ReadAtWork
+pub mod Restoring

@@ -1,0 +1,171 @@
+-- A read between two of its requests, while writers change what the servers keep.
+use Rattle.std.specs.Prelude.{◌≡◌, ◌≢◌, ◌⊎◌, ℕ, ◌+◌, ◌-◌, ◌*◌, ◌/◌, ◌%◌, ◌<◌, ◌≤◌, min, Bool, true, false, ◌==◌, if◌then◌else◌, List, [], ◌∷◌, length, take, drop, slice_index, slice_index_or, bit_xor, Option, Some, None}
+use Rattle.zb_types.specs.declared.ids.ServerId.{ServerId}
+use Rattle.zb_types.specs.declared.ids.Ptr.{Ptr}
+use Rattle.zb_types.specs.declared.requests.Request.{Request}
+use Rattle.zb_types.specs.declared.requests.Request.TheVariants as ask
+use Rattle.zb_types.specs.declared.requests.Response.{Response}
+use Rattle.zb_types.specs.declared.requests.Response.TheVariants as told
+use Rattle.zb_types.specs.declared.requests.StoreFault.TheVariants as fault
+use Rattle.zb_stripes.specs.Fragments.{Fragment, share_fragment, parity_fragment}
+use Rattle.zb_stripes.specs.Exclusive.{xor_at}
+use Rattle.zb_stripes.specs.Holding.{Maps, StripeHolds, covered, is_away, standing, away_at}
+use Rattle.zb_stripes.specs.Carrying.{found}
+use Rattle.zb_stripe.specs.declared.read.Got.{Got}
+use Rattle.zb_stripe.specs.declared.read.Got.TheVariants as got
+use Rattle.zb_stripe.specs.declared.progress.Phase.{Phase}
+use Rattle.zb_stripe.specs.declared.progress.Phase.TheVariants.{Direct, Lengths, Others}
+use Rattle.zb_stripe.specs.Reading.{Reading, asked, fed, is_more}
+
+-- some lists but one
+abbrev pub all_but : (ℕ → List ℕ) → ℕ → ℕ → List ℕ
+all_but lists j k = if k == j then [] else lists k
+
+-- of n servers with room for f bytes in a share
+module _ (n f : ℕ) (ptr : Ptr) where
+  -- where the next range begins in the stripe, behind what is read, and where the last one ends
+  abbrev pub next_pos : List ℕ → ℕ
+  next_pos read = ptr.offset + length read
+
+  abbrev pub last_pos : ℕ
+  last_pos = ptr.offset + ptr.len
+
+  -- the share of the next range, its place there, and its length
+  abbrev pub next_index : List ℕ → ℕ
+  next_index read = next_pos read / f
+
+  abbrev pub next_place : List ℕ → ℕ
+  next_place read = next_pos read % f
+
+  abbrev pub next_len : List ℕ → ℕ
+  next_len read = min (last_pos - next_pos read) (f - next_place read)
+
+  -- what is read so far are the pointer's first bytes, and of each server it is known whether it is lost
+  pub record SoFar (bytes : List ℕ) (lost : List Bool) (read : List ℕ) : Type 0 where
+    pub count : length lost ≡ n
+    pub within : length read ≤ ptr.len
+    pub begins : read ≡ take (length read) (drop ptr.offset bytes)
+
+  -- there is a next range, and its own server is lost
+  pub record Missing (lost : List Bool) (read : List ℕ) : Type 0 where
+    pub below : next_pos read < last_pos
+    pub gone : slice_index_or lost (next_index read) false ≡ true
+
+  -- the parity's range, into which the covered bytes of the shares below j were put, but the range's own
+  pub record Summed (bytes read lengths parity sum : List ℕ) (j : ℕ) : Type 0 where
+    pub long : length sum ≡ next_len read
+    pub sums : (y : ℕ) → y < next_len read
+        → slice_index sum y
+        ≡ bit_xor (slice_index parity (next_place read + y)) (xor_at (all_but (covered f bytes lengths) (next_index read)) j (next_place read + y))
+
+  -- Share j is asked, since the parity that stands in these maps covers it into the range.
+  pub record Asks (maps : Maps) (x : Option ServerId) (lost : List Bool) (bytes read lengths parity sum : List ℕ) (j : ℕ) : Type 0 where
+    pub missing : Missing lost read
+    pub index : j < n - 1
+    pub other : j ≢ next_index read
+    pub reached : next_place read < slice_index lengths j
+    pub stands : standing n maps ptr.log ptr.stripe (n - 1) ≡ Some (parity_fragment lengths parity)
+    pub looked : away_at n x ptr.log ptr.stripe (n - 1) ≡ false
+    pub summed : Summed bytes read lengths parity sum j
+
+  -- what is asked fits what the maps hold
+  abbrev pub PhaseFits : Maps → Option ServerId → List ℕ → List Bool → List ℕ → Phase → Type 0
+  PhaseFits maps x bytes lost read Direct = next_pos read < last_pos
+      → slice_index_or lost (next_index read) false ≡ false
+  PhaseFits maps x bytes lost read Lengths = Missing lost read
+  PhaseFits maps x bytes lost read (Others lengths sum j) = (parity : List ℕ)
+      × Asks maps x lost bytes read lengths parity sum j
+
+  -- at most so many answers are wanted for the next range
+  abbrev pub answers_for : Phase → ℕ
+  answers_for Direct = n + 1
+  answers_for Lengths = n
+  answers_for (Others lengths sum j) = n - 1 - j
+
+  -- at most so many answers are wanted still
+  abbrev pub answers_left : List ℕ → Phase → ℕ
+  answers_left read phase = (last_pos - next_pos read) * (n + 2) + answers_for phase
+
+-- a server that is left away is the one that may be down
+abbrev pub IsOutOf : Option ServerId → Option ServerId → Type 0
+IsOutOf None z = Unit {0}
+IsOutOf (Some a) z = z ≡ Some a
+
+-- a share is gone now, or its first bytes are what they were
+abbrev pub IsGoneOrSame : Option Fragment → Option Fragment → ℕ → Type 0
+IsGoneOrSame None seen limit = Unit {0}
+IsGoneOrSame (Some (share_fragment now)) (Some (share_fragment seen)) limit = take limit now ≡ take limit seen
+IsGoneOrSame now seen limit = ⊥
+
+-- a share is gone now, or has what it had before and perhaps more
+abbrev pub IsGoneOrLonger : Option Fragment → Option Fragment → Type 0
+IsGoneOrLonger None before = Unit {0}
+IsGoneOrLonger (Some (share_fragment now)) (Some (share_fragment before)) = before ≡ take (length before) now
+IsGoneOrLonger now before = ⊥
+
+-- each share that was looked at is gone now, or still begins with what the parity covered of it
+abbrev pub StillStand : ℕ → Ptr → Maps → Maps → Option ServerId → Phase → Type 0
+StillStand n ptr now seen y Direct = Unit {0}
+StillStand n ptr now seen y Lengths = Unit {0}
+StillStand n ptr now seen y (Others lengths sum k) = (j : ℕ) → j < n - 1
+    → away_at n y ptr.log ptr.stripe j ≡ false
+    → IsGoneOrSame (standing n now ptr.log ptr.stripe j) (standing n seen ptr.log ptr.stripe j) (slice_index lengths j)
+
+-- A read at work, whose stripe is committed up to `end` with the same bytes throughout: the maps in which its
+-- range's parity was seen held the stripe, what it has is theirs, and what it still asks for is gone or the same.
+pub record ReadAtWork (now : Maps) (end : ℕ) (bytes : List ℕ) (r : Reading) : Type 0 where
+  pub seen : Maps
+  pub y : Option ServerId
+  pub then_bytes : List ℕ
+  pub held : StripeHolds r.servers r.fragment seen y r.ptr.log r.ptr.stripe end then_bytes
+  pub same : take end then_bytes ≡ take end bytes
+  pub so_far : SoFar r.servers r.fragment r.ptr then_bytes r.lost r.read
+  pub fits : PhaseFits r.servers r.fragment r.ptr seen y then_bytes r.lost r.read r.phase
+  pub still : StillStand r.servers r.ptr now seen y r.phase
+
+-- The share that is asked was looked at when the parity was seen. A server that wasn't doesn't answer later: the plan
+-- has it as lost, or a fence refuses the read.
+abbrev pub WasLooked : ℕ → Ptr → Option ServerId → Phase → Type 0
+WasLooked n ptr y Direct = Unit {0}
+WasLooked n ptr y Lengths = Unit {0}
+WasLooked n ptr y (Others lengths sum j) = away_at n y ptr.log ptr.stripe j ≡ false
+
+-- a server that is down or blank
+abbrev pub IsNotThere : Response → Type 0
+IsNotThere told.Down = Unit {0}
+IsNotThere told.Blank = Unit {0}
+IsNotThere response = ⊥
+
+-- each server that may be down may answer that it is, and each that is looked at answers from these maps
+abbrev pub AnswersWith : (ServerId → Type 0) → Maps → Option ServerId → Option (ServerId × Request)
+    → Response → Type 0
+AnswersWith MayBeDown maps x (Some (server, ask.Retrieve id place len)) response =
+    (MayBeDown server × IsNotThere response) ⊎ ((is_away x server ≡ false) × (response
+    ≡ found (maps server id) place len))
+AnswersWith MayBeDown maps x request response = ⊥
+
+-- server z alone may be down
+abbrev pub AnswersFrom : Maps → Option ServerId → Option ServerId → Option (ServerId × Request) → Response
+    → Type 0
+AnswersFrom maps x z = AnswersWith (λ server. is_away z server ≡ true) maps x
+
+-- so is each of these answers, up to the first that ends the read
+abbrev pub AllAnswer : Maps → Option ServerId → Option ServerId → Reading → List Response → Type 0
+AllAnswer maps x z r [] = Unit {0}
+AllAnswer maps x z r (t ∷ ts) = AnswersFrom maps x z (asked r) t × (is_more (fed r t).1 ≡ true
+    → AllAnswer maps x z (fed r t).0 ts)
+
+-- any server may be down or have a newer fence
+abbrev pub MayAnswer : Maps → Option ServerId → Option (ServerId × Request) → Response → Type 0
+MayAnswer maps x request response =
+    AnswersWith (λ server. Unit {0}) maps x request response ⊎ ((generation : ℕ) × (response
+    ≡ told.Refused (fault.OldGeneration generation)))
+
+-- what an answer leads to: the read goes on and has fewer requests before it, or it ends
+abbrev pub LeadsTo : Maps → ℕ → List ℕ → Reading → Reading → Got → Type 0
+LeadsTo now end bytes before r got.More = ReadAtWork now end bytes r
+    × (answers_left before.servers before.fragment before.ptr r.read r.phase < answers_left before.servers before.fragment before.ptr before.read before.phase)
+LeadsTo now end bytes before r (got.Bytes found) = found ≡ take before.ptr.len (drop before.ptr.offset bytes)
+LeadsTo now end bytes before r (got.Unreachable a b) = a.0 < b.0
+LeadsTo now end bytes before r got.Gone = Unit {0}
+LeadsTo now end bytes before r (got.Old generation) = Unit {0}

@@ -1,0 +1,14 @@
+//! Laws of stripes, as public functions with empty bodies: what the servers hold of a stripe, what the requests of a
+//! flush keep of it, and what a read gives while others write.
+#![tactic(auto)]
+
+mod holding;
+mod reading;
+mod writing;
+
+pub use holding::{
+    judged_by_what_is_looked_at, lower_end_holds, more_may_be_away, rebuilt_is_the_share,
+    restored_holds, stripe_is_one_list,
+};
+pub use reading::{read_gives_bytes, read_goes_on};
+pub use writing::{part_at_work, part_keeps_stripe, plan_keeps_stripes, stripe_at_work_holds};

@@ -1,0 +1,10 @@
+pub mod Naming
+pub mod Listing
+pub mod Serving
+pub mod Planned
+pub mod Asking
+pub mod Taking
+pub mod Indexing
+pub mod ReadAnswers
+pub mod Deliveries
+pub mod ReadsOn

@@ -1,0 +1,95 @@
+-- When two names are one, and what a change of a server's entries leaves under each name.
+use Rattle.std.proofs.Common.{◌≡◌, ℕ, ◌&&◌, Bool, true, false, cond, eqb, Option, Some, None, refl, sym, ap, ◌∙◌, inl, inr, arith}
+use Rattle.std.specs.Prelude.{option_map, is_some}
+use Rattle.std.specs.Map.{lookup}
+use Rattle.std.specs.BTreeMap.{is_at}
+use Rattle.std.specs.Ordering.{nat_cmp, ordering_then, is_eq}
+use Rattle.std.specs.Cmp.{tied_then}
+use Rattle.std.proofs.lemmas.Bool.{cases_Bool, eqb-true, and_parts}
+use Rattle.std.proofs.lemmas.Bool.Decides.{nat_tests}
+use Rattle.zb_types.specs.declared.ids.FragId.{FragId}
+use Rattle.zb_types.specs.declared.requests.Request.{Request}
+use Rattle.zb_types.specs.Order.{frag_cmp}
+use Rattle.zb_stripes.specs.Fragments.{Fragment}
+use Rattle.zb_stripes.specs.Carrying.{same_frag, is_about, stands_after}
+use Rattle.zb_plain.specs.declared.kept.Kept.{Kept}
+use Rattle.zb_plain.specs.Standing.{Entries, fragment_of, stands_in, IsPut, IsAfter}
+
+nat_is_eq : (x y : ℕ) → eqb x y ≡ is_eq (nat_cmp x y)
+nat_is_eq x y = grind (arith, nat_tests)
+
+and_groups : (p q r : Bool) → (p && (q && r)) ≡ ((p && q) && r)
+and_groups true q r = refl
+and_groups false q r = refl
+
+-- names that compare alike are one name
+same_frag-cmp : (a b : FragId) → is_at (frag_cmp a) b ≡ same_frag a b
+same_frag-cmp a b =
+    sym (tied_then (nat_cmp a.log.0 b.log.0) (ordering_then (nat_cmp a.stripe b.stripe) (nat_cmp a.index b.index)))
+    ∙ ap (λ t. is_eq (nat_cmp a.log.0 b.log.0) && t) (sym (tied_then (nat_cmp a.stripe b.stripe) (nat_cmp a.index b.index)))
+    ∙ (λ i. sym (nat_is_eq a.log.0 b.log.0) i && (sym (nat_is_eq a.stripe b.stripe) i && sym (nat_is_eq a.index b.index) i))
+    ∙ and_groups (eqb a.log.0 b.log.0) (eqb a.stripe b.stripe) (eqb a.index b.index)
+
+pub is_at-same_frag : (a : FragId) → is_at (frag_cmp a) ≡ same_frag a
+is_at-same_frag a = λ i q. same_frag-cmp a q i
+
+-- names that are the same are equal
+pub same_frag-is : (a b : FragId) → same_frag a b ≡ true → a ≡ b
+same_frag-is a b same =
+    let parts = and_parts (eqb a.log.0 b.log.0 && eqb a.stripe b.stripe) (eqb a.index b.index) same in
+    let firsts = and_parts (eqb a.log.0 b.log.0) (eqb a.stripe b.stripe) parts.0 in
+    let log = eqb-true a.log.0 b.log.0 firsts.0 in
+    let stripe = eqb-true a.stripe b.stripe firsts.1 in
+    let index = eqb-true a.index b.index parts.1 in
+    (λ i. record { log = record { 0 = log i }; stripe = stripe i; index = index i })
+
+map_cond : (b : Bool) (w o : Option Kept) → option_map fragment_of (cond b w o) ≡ cond b (option_map fragment_of w) (option_map fragment_of o)
+map_cond true w o = refl
+map_cond false w o = refl
+
+-- what stands under a name is what the ordered map has there
+pub stands-is : (entries : Entries) (id : FragId) → option_map fragment_of (lookup (is_at (frag_cmp id)) entries) ≡ stands_in entries id
+stands-is entries id = ap (λ test. option_map fragment_of (lookup test entries)) (is_at-same_frag id)
+
+-- the ordered map has a value under a name, or has it no more
+pub put_by : (old new : Entries) (id : FragId) (kept : Option Kept)
+    → ((q : FragId) → lookup (is_at (frag_cmp q)) new ≡ cond (is_at (frag_cmp id) q) kept (lookup (is_at (frag_cmp q)) old))
+    → IsPut old new id (option_map fragment_of kept)
+put_by old new id kept at q =
+    sym (stands-is new q) ∙ ap (option_map fragment_of) (at q)
+    ∙ map_cond (is_at (frag_cmp id) q) kept (lookup (is_at (frag_cmp q)) old)
+    ∙ (λ i. cond (same_frag-cmp id q i) (option_map fragment_of kept) (stands-is old q i))
+
+-- what a request leaves under its name is put there
+pub after_put : (request : Request) (old new : Entries) (id : FragId) (stands : Option Fragment) → ((q : FragId) → is_about request q ≡ same_frag id q)
+    → stands ≡ stands_after request (stands_in old id) → IsPut old new id stands → IsAfter old new request
+after_put request old new id stands about is put q =
+    elim (cases_Bool (same_frag id q)) [
+      | inl same ↦
+          let after = stands_after request (stands_in old q) in
+          put q ∙ ap (λ b. cond b stands (stands_in old q)) same ∙ is ∙ ap (λ k. stands_after request (stands_in old k)) (same_frag-is id q same)
+          ∙ sym (ap (λ b. cond b after (stands_in old q)) (about q ∙ same))
+      | inr other ↦
+          let after = stands_after request (stands_in old q) in
+          put q ∙ ap (λ b. cond b stands (stands_in old q)) other ∙ sym (ap (λ b. cond b after (stands_in old q)) (about q ∙ other))
+    ]
+
+put_same : (old : Entries) (id : FragId) → IsPut old old id (stands_in old id)
+put_same old id q =
+    elim (cases_Bool (same_frag id q)) [
+      | inl same ↦ ap (stands_in old) (sym (same_frag-is id q same)) ∙ sym (ap (λ b. cond b (stands_in old id) (stands_in old q)) same)
+      | inr other ↦ sym (ap (λ b. cond b (stands_in old id) (stands_in old q)) other)
+    ]
+
+-- a request that leaves what stood under its name changes nothing
+pub after_same : (request : Request) (old : Entries) (id : FragId) → ((q : FragId) → is_about request q ≡ same_frag id q)
+    → stands_in old id ≡ stands_after request (stands_in old id) → IsAfter old old request
+after_same request old id about is = after_put request old old id (stands_in old id) about is (put_same old id)
+
+-- nothing stands where the ordered map has nothing
+pub stands_nothing : (entries : Entries) (id : FragId) → is_some (lookup (is_at (frag_cmp id)) entries) ≡ false → stands_in entries id ≡ None
+stands_nothing entries id none = sym (stands-is entries id) ∙ ap (option_map fragment_of) (is_none (lookup (is_at (frag_cmp id)) entries) none)
+  where
+    is_none : (o : Option Kept) → is_some o ≡ false → o ≡ None
+    is_none None h = refl
+    is_none (Some kept) h = absurd cc

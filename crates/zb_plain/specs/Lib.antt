@@ -1,0 +1,5 @@
+pub mod Standing
+pub mod Answering
+pub mod Indexed
+pub mod Leading
+pub mod Delivering

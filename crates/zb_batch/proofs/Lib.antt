@@ -1,0 +1,5 @@
+pub mod Sizes
+pub mod Once
+pub mod Missing
+pub mod Ops
+pub mod Whole

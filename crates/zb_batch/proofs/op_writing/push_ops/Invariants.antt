@@ -1,0 +1,6 @@
+use Rattle.std.proofs.Common.{◌≡◌, ◌++◌, take}
+use Rattle.zb_batch.specs.Spelling.{ops_text}
+use Rattle.zb_batch.proofs.op_writing.push_ops.Given as goal
+
+abbrev pub invariant-loop-op : goal.invariant-loop-op
+invariant-loop-op l = l.to ≡ l.fn.to ++ ops_text (take l.op-index l.ops)

@@ -1,0 +1,5 @@
+pub mod Places
+pub mod Placing
+pub mod Sealing
+pub mod Logs
+pub mod Runs

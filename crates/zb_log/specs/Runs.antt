@@ -1,0 +1,40 @@
+-- Runs of calls of a log, and the addresses that they give.
+use Rattle.std.specs.Prelude.{◌≡◌, ℕ, ◌+◌, ◌<◌, ◌≤◌, nat_le, List, [], ◌∷◌, ◌++◌, filter, AllPairs}
+use Rattle.zb_types.specs.declared.ids.Piece.{Piece}
+use Rattle.zb_log.specs.declared.places.Place.{Place}
+use Rattle.zb_log.specs.Logs.{SeenLog, Gives, renewed}
+
+-- what a call does to the addresses of a log: it gives those of some ranges, and none where it seals or fails, or it
+-- gives those above a stripe back
+pub data Step : Type 0 where
+  gives : List Piece → Step
+  goes_on_after : ℕ → Step
+
+-- calls lead from one log to another
+abbrev pub IsRun : SeenLog → List Step → SeenLog → Type 0
+IsRun old [] new = old ≡ new
+IsRun old (gives ranges ∷ steps) new =
+    (mid : SeenLog) × Gives old ranges mid × (mid.room ≡ old.room) × IsRun mid steps new
+IsRun old (goes_on_after last ∷ steps) new = IsRun (renewed old last) steps new
+
+-- the ranges that are given, and weren't given back since
+abbrev pub held_after : List Piece → List Step → List Piece
+held_after held [] = held
+held_after held (gives ranges ∷ steps) = held_after (held ++ ranges) steps
+held_after held (goes_on_after last ∷ steps) =
+    held_after (filter (λ range. nat_le range.stripe last) held) steps
+
+-- a byte of a range
+pub record IsIn (range : Piece) (at : Place) : Type 0 where
+  pub stripe : at.stripe ≡ range.stripe
+  pub begins : range.offset ≤ at.offset
+  pub ends : at.offset < range.offset + range.len
+
+-- no address is in both
+abbrev pub AreApart : Piece → Piece → Type 0
+AreApart one other = (at : Place) → IsIn one at → IsIn other at → ⊥
+
+-- whatever was called, no address is given twice but those that were given back between
+abbrev pub GivesNoAddressTwice : Type 0
+GivesNoAddressTwice =
+    (old new : SeenLog) (steps : List Step) → IsRun old steps new → AllPairs AreApart (held_after [] steps)

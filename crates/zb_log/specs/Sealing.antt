@@ -1,0 +1,52 @@
+-- The bytes of a placed batch, stripe by stripe.
+use Rattle.std.specs.Prelude.{◌≡◌, ℕ, ◌-◌, ◌<◌, ◌≤◌, ◌==◌, List, [], ◌∷◌, ◌++◌, length, take, drop, replicate, if◌then◌else◌, Any}
+use Rattle.std.specs.List.{AllZip}
+use Rattle.zb_types.specs.declared.ids.Piece.{Piece}
+use Rattle.zb_types.specs.declared.ids.Ptr.{Ptr}
+use Rattle.zb_stripe.specs.declared.flush.Part.{Part}
+
+-- all bytes of a piece's stripe: those that were given before, zeros where none were, and the new ones
+abbrev pub part_of : List ℕ → Piece → List ℕ → Part
+part_of before piece new = record {
+  stripe = piece.stripe;
+  begin = length before;
+  bytes = before ++ (replicate (piece.offset - length before) 0 ++ new);
+}
+
+-- the bytes of a stripe that were given before: none but of the stripe at work
+abbrev pub given_of : ℕ → List ℕ → ℕ → List ℕ
+given_of at_work given stripe = if stripe == at_work then given else []
+
+-- a part for each piece, where the bytes of the pieces stand one behind the other
+abbrev pub parts_of : ℕ → List ℕ → List Piece → List ℕ → List Part
+parts_of at_work given [] new = []
+parts_of at_work given (piece ∷ pieces) new =
+    part_of (given_of at_work given piece.stripe) piece (take piece.len new)
+    ∷ parts_of at_work given pieces (drop piece.len new)
+
+-- the pieces have their bytes, and each begins behind those that were given of its stripe
+abbrev pub HaveBytes : ℕ → List ℕ → List Piece → List ℕ → Type 0
+HaveBytes at_work given [] new = Unit {0}
+HaveBytes at_work given (piece ∷ pieces) new =
+    (piece.len ≤ length new) × (length (given_of at_work given piece.stripe) ≤ piece.offset)
+    × HaveBytes at_work given pieces (drop piece.len new)
+
+-- a block stands in a part, at its address
+pub record StandsIn (ptr : Ptr) (block : List ℕ) (part : Part) : Type 0 where
+  pub stripe : part.stripe ≡ ptr.stripe
+  pub bytes : take ptr.len (drop ptr.offset part.bytes) ≡ block
+
+-- each block stands at its address
+abbrev pub StandEach : List Part → List Ptr → List (List ℕ) → Type 0
+StandEach parts ptrs blocks = AllZip (λ ptr block. Any (StandsIn ptr block) parts) ptrs blocks
+
+-- the bytes at the pieces, one behind the other, where each part has the stripe of its piece
+abbrev pub read_at : List Piece → List Part → List ℕ
+read_at [] parts = []
+read_at (piece ∷ pieces) [] = []
+read_at (piece ∷ pieces) (part ∷ parts) = take piece.len (drop piece.offset part.bytes) ++ read_at pieces parts
+
+-- a part with new bytes, within the room of a stripe
+pub record HasNew (room : ℕ) (part : Part) : Type 0 where
+  pub new : part.begin < length part.bytes
+  pub within : length part.bytes ≤ room

@@ -1,0 +1,7 @@
+ghost use Rattle.zb_log.specs.Runs.{GivesNoAddressTwice};
+
+/// Whatever calls are made of a log, in any order, no address is given twice, but for those that a `next_stripe`
+/// between gave back.
+pub fn no_address_twice()
+    ensures { GivesNoAddressTwice }
+{}

@@ -3,7 +3,6 @@ pub mod Points
 pub mod Fits
 pub mod Text
 pub mod Script
-pub mod First
 pub mod Runs
 pub mod Reasons
 pub mod Need

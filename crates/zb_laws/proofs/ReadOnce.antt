@@ -6,7 +6,6 @@ use Rattle.std.proofs.lemmas.List.{append-nil, length-append}
 use Rattle.zb_types.specs.declared.geometry.Geometry.{Geometry}
 use Rattle.zb_claims.specs.Text.{header_text, words, max_script}
 use Rattle.zb_claims.specs.Script.{Row, skipped, said, row_text, is_comment, ended_line, IsRow, rows_text, Grammar, whole, Begins, IsBad}
-use Rattle.zb_claims.specs.First.{first_path}
 use Rattle.zb_laws.specs.Readings.{IsRowFront, IsReading, OneReading, OneStop, HeaderOrNone}
 use Rattle.zb_laws.proofs.Splits.{rows_agree}
 use Rattle.zb_laws.proofs.Heads.{SameHeads, heads_cut, head_cut, no_header}
@@ -95,27 +94,11 @@ header_or_none g part script geo rows rest number r n =
 pub whole_part : IsPart whole
 whole_part = record { before = λ bytes h. h; row = λ geo row h. h }
 
-first_row : (geo : Geometry) (row : Row) → first_path.row geo row → IsRow geo row
-first_row geo (skipped bytes) h = absurd h
-first_row geo (said line) h = h.0
-
-pub first_part : IsPart first_path
-first_part = record { before = λ bytes h. absurd h; row = first_row }
-
 pub whole_once : OneReading whole
 whole_once = one_reading whole whole_part
-
-pub first_once : OneReading first_path
-first_once = one_reading first_path first_part
 
 pub whole_stop : OneStop whole
 whole_stop = one_stop whole whole_part
 
-pub first_stop : OneStop first_path
-first_stop = one_stop first_path first_part
-
 pub whole_header : HeaderOrNone whole
 whole_header = header_or_none whole whole_part
-
-pub first_header : HeaderOrNone first_path
-first_header = header_or_none first_path first_part

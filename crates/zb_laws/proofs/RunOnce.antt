@@ -17,15 +17,14 @@ use Rattle.zb_types.specs.Tree.{listing}
 use Rattle.zb_claims.specs.Points.{tree_at}
 use Rattle.zb_claims.specs.Text.{IsOutcome, said_text, line_text, report_text, listed_text, list_text, newline}
 use Rattle.zb_claims.specs.Script.{Grammar, whole, lines_in}
-use Rattle.zb_claims.specs.First.{first_path}
 use Rattle.zb_claims.specs.Runs.{TellsTree, IsDone, IsStarved, Prints, end_line, out_of_memory}
-use Rattle.zb_laws.specs.Printed.{starts_call, starts_line, OneReport, TailsDiffer, OneRun}
+use Rattle.zb_laws.specs.Printed.{starts_call, starts_line, OneReport, TailsDiffer, LinesAloneDiffer, OneRun}
 use Rattle.zb_laws.proofs.Tests.{or_left}
 use Rattle.zb_laws.proofs.Bytes.{first_low}
 use Rattle.zb_laws.proofs.Clean.{small_client}
 use Rattle.zb_laws.proofs.Lines.{call_words}
 use Rattle.zb_laws.proofs.Fronts.{line_cut}
-use Rattle.zb_laws.proofs.ReadOnce.{IsPart, whole_part, first_part, same_start}
+use Rattle.zb_laws.proofs.ReadOnce.{IsPart, whole_part, same_start}
 
 -- The first letters of a line.
 
@@ -106,11 +105,11 @@ one_run g part status bytes printed not run other =
 pub whole_run : OneRun whole
 whole_run = one_run whole whole_part
 
-pub first_run : OneRun first_path
-first_run = one_run first_path first_part
-
 pub whole_tails : TailsDiffer whole
 whole_tails = tails_differ whole
 
-pub first_tails : TailsDiffer first_path
-first_tails = tails_differ first_path
+pub lines_alone : LinesAloneDiffer whole
+lines_alone bytes end last (inl h) = ap starts_line h.1.2
+lines_alone bytes end last (inr (inl h)) = ap starts_line h.1
+lines_alone bytes end last (inr (inr (inl h))) = ap starts_line h.1
+lines_alone bytes end last (inr (inr (inr h))) = ap starts_line h.1.1

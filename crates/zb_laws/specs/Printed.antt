@@ -6,7 +6,7 @@ use Rattle.zb_types.specs.declared.geometry.Geometry.{Geometry}
 use Rattle.zb_types.specs.declared.lines.Outcome.{Outcome}
 use Rattle.zb_claims.specs.Text.{IsOutcome, report_text}
 use Rattle.zb_claims.specs.Script.{Grammar, Row}
-use Rattle.zb_claims.specs.Runs.{TellsTree, EndsSo, RunsScript}
+use Rattle.zb_claims.specs.Runs.{TellsTree, EndsSo, EndsBefore, RunsScript}
 
 -- a `c` with a digit
 abbrev pub starts_call : List ℕ → Bool
@@ -28,6 +28,10 @@ OneReport = (geo : Geometry) (lines others : List Outcome) (tail other : List �
 -- what stands behind the lines starts otherwise
 abbrev pub TailsDiffer : Grammar → Type 0
 TailsDiffer g = (bytes : List ℕ) (geo : Geometry) (rows : List Row) (rest : List ℕ) (all : List Outcome) (end : ℕ) (tail : List ℕ) → EndsSo g TellsTree bytes geo rows rest all end tail → starts_line tail ≡ false
+
+-- so does the line of a run that has no others
+abbrev pub LinesAloneDiffer : Grammar → Type 0
+LinesAloneDiffer g = (bytes : List ℕ) (end : ℕ) (last : List ℕ) → EndsBefore g bytes end last → starts_line last ≡ false
 
 pub record SameRun (geo other_geo : Geometry) (all other_all : List Outcome) (tail other_tail : List ℕ) : Type 0 where
   pub geometry : geo ≡ other_geo

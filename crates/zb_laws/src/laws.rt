@@ -1,9 +1,10 @@
+ghost use Rattle.std.specs.Prelude.{◌≡◌, false};
 ghost use Rattle.zb_laws.specs.Texts.{NoFront, FrontLines, SameLines, OneSpelling};
 ghost use Rattle.zb_laws.specs.Readings.{RowsAgree, OneReading, OneStop, HeaderOrNone};
 ghost use Rattle.zb_claims.specs.Script.{whole};
-ghost use Rattle.zb_claims.specs.First.{first_path};
 ghost use Rattle.zb_laws.specs.Histories.{FrontFits, TellsLegal, InOrder};
-ghost use Rattle.zb_laws.specs.Printed.{OneReport, TailsDiffer, OneRun};
+ghost use Rattle.zb_claims.specs.Runs.{usage};
+ghost use Rattle.zb_laws.specs.Printed.{OneReport, TailsDiffer, OneRun, LinesAloneDiffer, starts_line};
 ghost use Rattle.zb_laws.specs.Calm.{CalmIsFaultless, RowsReasoned};
 ghost use Rattle.zb_laws.specs.Worked.{RowsFit, WrongUnfit};
 
@@ -49,20 +50,17 @@ pub fn rows_agree()
 
 /// The bytes of a script determine its sizes, its rows, and what follows them.
 pub fn one_reading()
-    ensures whole { OneReading whole }
-    ensures first { OneReading first_path }
+    ensures { OneReading whole }
 {}
 
 /// One line of a script is the first that isn't in the grammar.
 pub fn one_stop()
-    ensures whole { OneStop whole }
-    ensures first { OneStop first_path }
+    ensures { OneStop whole }
 {}
 
 /// A script that has a header isn't one that has none.
 pub fn header_or_none()
-    ensures whole { HeaderOrNone whole }
-    ensures first { HeaderOrNone first_path }
+    ensures { HeaderOrNone whole }
 {}
 
 /// Lines and a tail that starts otherwise are told apart.
@@ -70,16 +68,16 @@ pub fn one_report()
     ensures { OneReport }
 {}
 
-/// What stands behind the lines of a run starts otherwise.
+/// What stands behind the lines of a run, or without any, starts otherwise.
 pub fn tails_differ()
-    ensures whole { TailsDiffer whole }
-    ensures first { TailsDiffer first_path }
+    ensures behind_lines { TailsDiffer whole }
+    ensures alone { LinesAloneDiffer whole }
+    ensures usage { starts_line usage ≡ false }
 {}
 
 /// What a run prints to its end determines its lines.
 pub fn one_run()
-    ensures whole { OneRun whole }
-    ensures first { OneRun first_path }
+    ensures { OneRun whole }
 {}
 
 /// The worked rows fit.

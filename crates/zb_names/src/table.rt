@@ -1,4 +1,4 @@
-ghost use Rattle.std.specs.Prelude.{◌≡◌, ◌+◌, ◌≤◌, [], ◌∷◌, None, Some, true, false, OnOk, OnErr, IfOk, IfErr, MatchResult, IfSome, IsSome, ◌↔◌, IsTrue, length};
+ghost use Rattle.std.specs.Prelude.{◌≡◌, ◌+◌, ◌≤◌, [], ◌∷◌, None, Some, true, false, OnOk, OnErr, IfOk, IfErr, MatchResult, IfSome, IsSome, ◌↔◌, IsTrue, length, option_map, slice_get};
 ghost use Rattle.std.specs.List.{list_any};
 ghost use Rattle.zb_types.specs.Paths.{is_path};
 ghost use Rattle.zb_types.specs.Names.{first_names, walk, has, find, with_entry, is_below, name_refusal, name_effect, name_change, name_reply, names_in};
@@ -203,6 +203,14 @@ impl Names {
             list.push((path_of(alloc, key)?, kept.entry()))?;
         }
         Ok(list)
+    }
+
+    /// The path with this place in the order of the paths' bytes, from 0, and what stands there. It takes as many steps.
+    pub fn at(&self, i: usize) -> Option<(&[u8], Entry)>
+        ensures { option_map (λ e. (e.0.now, seen e.1)) result ≡ slice_get self.now.entries i }
+    {
+        let (path, kept) = self.kept.iter().nth(i)?;
+        Some((path.as_slice(), kept.entry()))
     }
 
     fn list_root(&self, alloc: Global) -> Mem<NameList>

@@ -8,4 +8,4 @@ mod report;
 mod text;
 
 pub use report::{outcome, tree};
-pub use text::number_into;
+pub use text::{client_into, node_into, number_into, quoted_into, server_into, spaced_into};

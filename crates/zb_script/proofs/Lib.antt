@@ -10,3 +10,6 @@ pub mod LineForms
 pub mod Headings
 pub mod Sizing
 pub mod Ends
+pub mod Marks
+pub mod Short
+pub mod NextBytes

@@ -6,3 +6,4 @@ pub mod Nodes
 pub mod Lines
 pub mod Headers
 pub mod Laws
+pub mod Places

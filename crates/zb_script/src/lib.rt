@@ -11,7 +11,9 @@ mod limits;
 mod lines;
 mod nodes;
 mod numbers;
+mod reader;
 mod spaces;
+mod spelling;
 mod texts;
 mod verbs;
 
@@ -19,6 +21,8 @@ pub use calls::read_call;
 pub use header::read_header;
 pub use laws::{headers_have_no_end, lines_have_no_end};
 pub use lines::read_line;
+pub use reader::{MAX_LINE, Parsed, Script, line_end};
+pub use spelling::print;
 
 #[cfg(test)]
 mod tests {
@@ -46,6 +50,23 @@ mod tests {
             ("crash cl", true),
             ("lose s1", true),
             ("checkpoint", true),
+            ("clean", true),
+            ("+clean", true),
+            (
+                "c1 mkdir /aaaaaaaaaaaaaaaaaaaaaaaaaaaaaaaaaaaaaaaaaaaaaaaaaaaaaaaaaaaaaaaa",
+                true,
+            ),
+            (
+                "c1 mkdir /aaaaaaaaaaaaaaaaaaaaaaaaaaaaaaaaaaaaaaaaaaaaaaaaaaaaaaaaaaaaaaaaa",
+                false,
+            ),
+            ("c1 remove /./a", false),
+            ("c1 read 1 0 4097", false),
+            ("step cl 1000001", false),
+            ("arm s3 1000000", true),
+            ("arm s3 1000001", false),
+            ("c1 rename /a", false),
+            ("step fm 1", false),
             ("c3 sync", false),
             ("c01 sync", false),
             ("c1  sync", false),
@@ -65,6 +86,33 @@ mod tests {
             let found = read_line(alloc, &geo, line.as_bytes())?;
             assert_eq!(rt; found.is_some(), good, "{line}");
         }
+        Ok(())
+    }
+
+    #[test]
+    fn a_script_may_come_in_pieces(rt: HostRuntime) -> Result<(), Fail> {
+        let alloc = rt.alloc();
+        let mut script = Script::new();
+        for row in [
+            "# a comment\n",
+            "zebra 1 servers 3 clients 1 fragment 256 block 64 slots 32\n",
+            "\n",
+            "c1 create /a\n",
+            "+c1 write 1 0 \"hello\"\n",
+            "step me to finish\n",
+            "arm s1 7\n",
+        ] {
+            let row = row.as_bytes();
+            for (end, _) in row.iter().enumerate() {
+                let front = script.next(alloc, &row[..end])?;
+                assert!(rt; matches!(&front, Parsed::More));
+            }
+            if let Parsed::Line { line, used } = script.next(alloc, row)? {
+                assert_eq!(rt; used, row.len());
+                assert_eq!(rt; print(alloc, &line)?.slice(), row);
+            }
+        }
+        assert_eq!(rt; script.line_number(), 8);
         Ok(())
     }
 

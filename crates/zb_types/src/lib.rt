@@ -12,6 +12,8 @@ mod nodes;
 mod paths;
 mod requests;
 mod tables;
+#[cfg(test)]
+mod tests;
 
 pub use calls::{Call, Refusal, Reply};
 pub use geometry::{BadGeometry, Geometry};

@@ -17,6 +17,7 @@ use Rattle.zb_types.specs.Apply.{applied}
 use Rattle.zb_types.specs.History.{tree_from, AreReplies}
 use Rattle.zb_claims.specs.Points.{names, ends, has_line, has_final, kept_in, did_of, dids}
 use Rattle.zb_claims.specs.Fits.{FitsNext, FitsFrom}
+use Rattle.zb_laws.specs.Histories.{read_of, reads}
 use Rattle.zb_world.specs.Sound.{open_numbers}
 
 or_false : (b : Bool) → (b || false) ≡ b
@@ -93,6 +94,9 @@ open_numbers-replied n reply lines =
 
 pub dids-push : (script : List Line) (lines : List Outcome) (line : Outcome) → dids script (lines ++ line ∷ []) ≡ dids script lines ++ did_of script line
 dids-push script lines line = flat_map-append (did_of script) lines (line ∷ []) ∙ ap (λ (d : List Did). dids script lines ++ d) (append-nil (did_of script line))
+
+pub reads-push : (script : List Line) (lines : List Outcome) (line : Outcome) → reads script (lines ++ line ∷ []) ≡ reads script lines ++ read_of script line
+reads-push script lines line = flat_map-append (read_of script) lines (line ∷ []) ∙ ap (λ (d : List Did). reads script lines ++ d) (append-nil (read_of script line))
 
 pub tree_from-append : (tree : Tree) (xs ys : List Did) → tree_from tree (xs ++ ys) ≡ tree_from (tree_from tree xs) ys
 tree_from-append tree [] ys = refl

@@ -17,6 +17,7 @@ use Rattle.zb_types.specs.Apply.{reply_to}
 use Rattle.zb_types.specs.History.{tree_after}
 use Rattle.zb_claims.specs.Points.{Subject, calls, subject_of, told_of, did_of, did_if, dids, tree_at, is_before_crash, crash_from, crashes, asked_of}
 use Rattle.zb_claims.specs.Fits.{FitsNext, FitsFrom, FitLines, SaidFits, ReadFits, EventFits}
+use Rattle.zb_laws.specs.Histories.{read_of, read_if, reads}
 use Rattle.zb_world.proofs.Appending.{All-push}
 use Rattle.zb_world.proofs.Asking.{Asks, asked_more, asked_within, is_begun_more, call_of_more, are_ended_more}
 
@@ -43,6 +44,21 @@ did_of_more script more (OfEvent event answer) asks = refl
 dids_more : (script more : List Line) (lines : List Outcome) → AllByRecursion (IsAsked script) lines → dids (script ++ more) lines ≡ dids script lines
 dids_more script more [] asks = refl
 dids_more script more (line ∷ lines) asks = rw (did_of_more script more line asks.0, dids_more script more lines asks.1) refl
+
+read_of_more : (script more : List Line) (line : Outcome) → IsAsked script line → read_of (script ++ more) line ≡ read_of script line
+read_of_more script more (OfCall client n (Replied reply)) asks = ap (read_if client n reply) (call_of_more script more client n n asks (omega arith))
+read_of_more script more (OfCall client n Buffered) asks = refl
+read_of_more script more (OfCall client n (Kept cause)) asks = refl
+read_of_more script more (OfCall client n (Failed cause)) asks = refl
+read_of_more script more (OfCall client n Dropped) asks = refl
+read_of_more script more (OfCall client n (Unfinished cause)) asks = refl
+read_of_more script more (OfClean pass) asks = refl
+read_of_more script more (OfRebuild server end) asks = refl
+read_of_more script more (OfEvent event answer) asks = refl
+
+reads_more : (script more : List Line) (lines : List Outcome) → AllByRecursion (IsAsked script) lines → reads (script ++ more) lines ≡ reads script lines
+reads_more script more [] asks = refl
+reads_more script more (line ∷ lines) asks = rw (read_of_more script more line asks.0, reads_more script more lines asks.1) refl
 
 tree_at_more : (script more : List Line) (lines : List Outcome) → AllByRecursion (IsAsked script) lines → tree_at (script ++ more) lines ≡ tree_at script lines
 tree_at_more script more lines asks = ap tree_after (dids_more script more lines asks)
@@ -134,3 +150,6 @@ FitLines-more ordered script more lines finished fits = from_more ordered script
 
 pub told_more : (ordered : Bool) (script more : List Line) (lines : List Outcome) → FitLines ordered script lines → dids (script ++ more) lines ≡ dids script lines
 told_more ordered script more lines fits = dids_more script more lines (all_asked ordered script [] lines tt fits)
+
+pub reads_told_more : (ordered : Bool) (script more : List Line) (lines : List Outcome) → FitLines ordered script lines → reads (script ++ more) lines ≡ reads script lines
+reads_told_more ordered script more lines fits = reads_more script more lines (all_asked ordered script [] lines tt fits)

@@ -1,10 +1,10 @@
 -- What a world does with its calls keeps it sound.
 use Rattle.std.proofs.Common.{◌≡◌, ℕ, zero, suc, ◌+◌, ◌-◌, ◌^◌, ◌<◌, ◌≤◌, max, Bool, true, false, not, cond, ◌||◌, eqb, List, [], ◌∷◌, ◌++◌, length, Option, Some, None, refl, sym, ap, subst, ◌∙◌, append_assoc, arith}
-use Rattle.std.specs.Prelude.{filter, slice_get, nat_le, IsTrue}
+use Rattle.std.specs.Prelude.{map, filter, slice_get, nat_le, IsTrue}
 use Rattle.std.specs.List.{AllByRecursion}
 use Rattle.std.proofs.lemmas.Option.{slice_get_within}
 use Rattle.std.proofs.lemmas.Bool.Decides.{nat_tests}
-use Rattle.std.proofs.lemmas.List.{length-append, append-nil, take-append-le, take_all}
+use Rattle.std.proofs.lemmas.List.{length-append, append-nil, map-append, take-append-le, take_all}
 use Rattle.zb_types.specs.declared.geometry.Geometry.{Geometry}
 use Rattle.zb_types.specs.declared.calls.Call.{Call}
 use Rattle.zb_types.specs.declared.calls.Call.TheVariants.{Create, Mkdir, Remove, Rename, Write, Truncate, Sync, Read, List as ListOf, Stat, Find}
@@ -23,10 +23,11 @@ use Rattle.zb_types.specs.History.{tree_from, tree_after, AreReplies, IsSeen, Is
 use Rattle.zb_claims.specs.Points.{has_line, has_final, call_in, call_of, did_if, dids, tree_at, is_begun}
 use Rattle.zb_claims.specs.Fits.{FitsNext, FitLines, WasFull, is_next}
 use Rattle.zb_claims.specs.Text.{IsOutcome, IsReply}
+use Rattle.zb_laws.specs.Histories.{answer_of, read_if, reads}
 use Rattle.zb_world.specs.Seen.{Seen, script_of, is_up_to, numbers_from, did_by, saw_by}
 use Rattle.zb_world.specs.Sound.{IsSound, HistoryFits, CallsInOrder, IsPlain, open_numbers}
-use Rattle.zb_world.proofs.Appending.{All-push, FitsFrom-push, has_line-push, has_final-buffered, has_final-replied, open_numbers-buffered, open_numbers-replied, dids-push, tree_from-append, AreReplies-append}
-use Rattle.zb_world.proofs.More.{FitLines-more, told_more}
+use Rattle.zb_world.proofs.Appending.{All-push, FitsFrom-push, has_line-push, has_final-buffered, has_final-replied, open_numbers-buffered, open_numbers-replied, dids-push, reads-push, tree_from-append, AreReplies-append}
+use Rattle.zb_world.proofs.More.{FitLines-more, told_more, reads_told_more}
 use Rattle.zb_world.proofs.Calls.{script_of-append, asked_call, AreNamed, begun_all, ended_all, before_crash, finished}
 
 -- Numbers.
@@ -117,6 +118,7 @@ IsSound-call s tree call sound few =
       history_fits = record {
         legal = h.legal;
         told = h.told ∙ sym (ap (λ (l : List Line). dids l s.lines) (script_of-append s.calls (call ∷ [])) ∙ told_more true (script_of s.calls) (script_of (call ∷ [])) s.lines h.fits);
+        reads_told = h.reads_told ∙ sym (ap (λ (l : List Line). reads l s.lines) (script_of-append s.calls (call ∷ [])) ∙ reads_told_more true (script_of s.calls) (script_of (call ∷ [])) s.lines h.fits);
         fits = subst (λ (l : List Line). FitLines true l s.lines) (sym (script_of-append s.calls (call ∷ []))) (FitLines-more true (script_of s.calls) (script_of (call ∷ [])) s.lines (finished s.lines h.plain) h.fits);
         plain = h.plain;
         valid = h.valid;
@@ -172,6 +174,7 @@ IsSound-kept s tree call sound is may idle few =
       history_fits = record {
         legal = h.legal;
         told = h.told ∙ sym (dids-push (script_of s.calls) s.lines (OfCall 1 (suc s.lined) Buffered) ∙ append-nil (dids (script_of s.calls) s.lines));
+        reads_told = h.reads_told ∙ sym (reads-push (script_of s.calls) s.lines (OfCall 1 (suc s.lined) Buffered) ∙ append-nil (reads (script_of s.calls) s.lines));
         fits = FitsFrom-push true (script_of s.calls) [] s.lines (OfCall 1 (suc s.lined) Buffered) h.fits (kept_fits s tree call sound is may few);
         plain = All-push IsPlain s.lines (OfCall 1 (suc s.lined) Buffered) h.plain refl;
         valid = λ geo. All-push (IsOutcome geo) s.lines (OfCall 1 (suc s.lined) Buffered) (h.valid geo) (own_client geo, omega (arith, given, o.few), tt);
@@ -324,6 +327,22 @@ told_reply s call reply h given =
     ∙ ap (λ (o : Option Call). dids (script_of s.calls) s.lines ++ did_if 1 (suc s.done) reply o) (sym found)
     ∙ sym (dids-push (script_of s.calls) s.lines (OfCall 1 (suc s.done) (Replied reply)))
 
+saw_told : (n seen : ℕ) (call : Call) (reply : Reply) → map answer_of (saw_by n seen call reply) ≡ read_if 1 n reply (Some call)
+saw_told n seen call reply =
+    elim (is_update call) as (λ b. map answer_of (cond b [] (record { client = 1; number = n; seen = seen; call = call; reply = reply } ∷ [])) ≡ cond b [] (record { client = 1; number = n; call = call; reply = reply } ∷ [])) [
+      | true ↦ refl
+      | false ↦ refl
+    ]
+
+read_reply : (s : Seen) (call : Call) (reply : Reply) → HistoryFits s → slice_get s.calls s.done ≡ Some call → map answer_of (s.reads ++ saw_by (suc s.done) (length s.updates) call reply) ≡ reads (script_of s.calls) (s.lines ++ OfCall 1 (suc s.done) (Replied reply) ∷ [])
+read_reply s call reply h given =
+    let found : call_of (script_of s.calls) 1 (suc s.done) ≡ Some call = ap call_in (asked_call s.calls s.done call given) in
+    map-append answer_of s.reads (saw_by (suc s.done) (length s.updates) call reply)
+    ∙ ap (λ (d : List Did). d ++ map answer_of (saw_by (suc s.done) (length s.updates) call reply)) h.reads_told
+    ∙ ap (λ (d : List Did). reads (script_of s.calls) s.lines ++ d) (saw_told (suc s.done) (length s.updates) call reply)
+    ∙ ap (λ (o : Option Call). reads (script_of s.calls) s.lines ++ read_if 1 (suc s.done) reply o) (sym found)
+    ∙ sym (reads-push (script_of s.calls) s.lines (OfCall 1 (suc s.done) (Replied reply)))
+
 reply_order : (s : Seen) (tree : Tree) (call : Call) (reply : Reply) (due : ℕ) → CallsInOrder s → Answers s tree call reply due → CallsInOrder (with_reply s call reply due)
 reply_order s tree call reply due o a =
     let n : ℕ = suc s.done in
@@ -362,6 +381,7 @@ IsSound-reply s tree next call reply due sound a becomes =
       history_fits = record {
         legal = legal_more s tree call reply sound a.same;
         told = told_reply s call reply h a.given;
+        reads_told = read_reply s call reply h a.given;
         fits = FitsFrom-push true (script_of s.calls) [] s.lines (OfCall 1 (suc s.done) (Replied reply)) h.fits (reply_fits s tree call reply due sound a);
         plain = All-push IsPlain s.lines (OfCall 1 (suc s.done) (Replied reply)) h.plain refl;
         valid = λ geo. All-push (IsOutcome geo) s.lines (OfCall 1 (suc s.done) (Replied reply)) (h.valid geo) (own_client geo, omega (arith, slice_get_within s.calls s.done call a.given, o.few), a.valid);

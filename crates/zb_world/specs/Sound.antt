@@ -1,5 +1,5 @@
 -- A sound world.
-use Rattle.std.specs.Prelude.{◌≡◌, ℕ, suc, ◌+◌, ◌-◌, ◌^◌, ◌<◌, ◌≤◌, true, List, length, filter, not, Some, slice_get}
+use Rattle.std.specs.Prelude.{◌≡◌, ℕ, suc, ◌+◌, ◌-◌, ◌^◌, ◌<◌, ◌≤◌, true, List, length, map, filter, not, Some, slice_get}
 use Rattle.std.specs.List.{flat_map, AllByRecursion}
 use Rattle.zb_types.specs.declared.calls.Call.{Call}
 use Rattle.zb_types.specs.declared.calls.Call.TheVariants.{Write, Read}
@@ -13,6 +13,7 @@ use Rattle.zb_types.specs.History.{tree_after, IsLegal}
 use Rattle.zb_claims.specs.Points.{has_line, has_final, kept_in, dids}
 use Rattle.zb_claims.specs.Fits.{FitLines, WasFull}
 use Rattle.zb_claims.specs.Text.{IsOutcome, report_text}
+use Rattle.zb_laws.specs.Histories.{answer_of, reads}
 use Rattle.zb_world.specs.Seen.{Seen, waiting, script_of, is_up_to, numbers_from}
 
 -- the calls that have a `kept` line and no final line
@@ -29,6 +30,7 @@ IsPlain line = ⊥
 pub record HistoryFits (s : Seen) : Type 0 where
   pub legal : IsLegal s.updates s.reads
   pub told : s.updates ≡ dids (script_of s.calls) s.lines
+  pub reads_told : map answer_of s.reads ≡ reads (script_of s.calls) s.lines
   pub fits : FitLines true (script_of s.calls) s.lines
   pub plain : AllByRecursion IsPlain s.lines
   pub valid : (geo : Geometry) → AllByRecursion (IsOutcome geo) s.lines

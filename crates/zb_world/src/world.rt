@@ -33,8 +33,7 @@ impl<O: Outside + Drop> Model for World<O> {
 impl<O: Outside + Drop> World<O> {
     /// A world that was given nothing. Want of memory gives the outside back.
     pub fn new(alloc: Global, geo: Geometry, out: O) -> Result<World<O>, (StartFault, O)>
-        requires servers { geo.servers ≡ 3 }
-        requires clients { geo.clients ≡ 1 }
+        requires { geo.clients ≡ 1 }
         ensures fresh { IfOk result (λ world. world.seen ≡ first_seen) }
         ensures out { IfOk result (λ world. world.out ≡ out) }
         ensures cause { IfErr result (λ e. e.0 ≡ StartFault.NoMemory) }

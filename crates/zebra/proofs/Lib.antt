@@ -1,10 +1,7 @@
-pub mod Marks
-pub mod Short
-pub mod NextLine
-pub mod FirstLines
 pub mod Taking
 pub mod Printing
+pub mod NextRow
 pub mod Running
-pub mod FirstHeader
+pub mod Heading
 pub mod Whole
 pub mod Closing

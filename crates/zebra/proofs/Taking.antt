@@ -37,14 +37,13 @@ IsTaken-more start before after front bytes p read t = record {
   rest = p.rest ++ bytes;
   taken = t.taken ∙ ap (λ (b : List ℕ). b ++ bytes) read.taken ∙ append_assoc (start.taken ++ front) p.rest bytes;
   left = read.left ∙ ap (λ (b : List ℕ). front ++ p.rest ++ b) t.left ∙ sym (append_assoc (front ++ p.rest) bytes after.left) ∙ ap (λ (b : List ℕ). b ++ after.left) (append_assoc front p.rest bytes);
-  limit = subst (λ n. n ≤ 67108864) read.used read.limit;
 }
 
 pub IsTaken-read : (start now : Tape) (front : List ℕ) (p : Pending) → IsRead start front p now → IsTaken start front now
-IsTaken-read start now front p read = record { rest = p.rest; taken = read.taken; left = read.left; limit = subst (λ n. n ≤ 67108864) read.used read.limit }
+IsTaken-read start now front p read = record { rest = p.rest; taken = read.taken; left = read.left }
 
 abbrev pub with_bytes : Pending → List ℕ → ℕ → Pending
-with_bytes p bytes n = record { rest = p.rest ++ bytes; used = p.used; ended = p.ended || eqb n 0 }
+with_bytes p bytes n = record { rest = p.rest ++ bytes; ended = p.ended || eqb n 0 }
 
 pub IsRead-more : (start before after : Tape) (front bytes : List ℕ) (n : ℕ) (p : Pending) → IsRead start front p before → Took bytes before after → (n ≡ 0 → before.left ≡ []) → IsRead start front (with_bytes p bytes n) after
 unfolding IsTaken-more
@@ -53,9 +52,7 @@ IsRead-more start before after front bytes n p read t ends =
     record {
       taken = more.taken;
       left = more.left;
-      used = read.used;
       ended = λ h. tail_nil bytes after.left (sym t.left ∙ by_end p.ended (eqb n 0) refl refl h);
-      limit = read.limit;
     }
   where
     by_end : (a b : Bool) → p.ended ≡ a → eqb n 0 ≡ b → (a || b) ≡ true → before.left ≡ []

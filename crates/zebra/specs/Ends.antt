@@ -1,36 +1,49 @@
 -- How a run ends.
-use Rattle.std.specs.Prelude.{◌≡◌, ◌⊎◌, ℕ, ◌+◌, ◌≤◌, Bool, false, List, [], ◌∷◌, ◌++◌, length, codes, String}
+use Rattle.std.specs.Prelude.{◌≡◌, ◌≢◌, ◌⊎◌, ℕ, ◌+◌, ◌≤◌, Bool, true, false, List, [], ◌∷◌, ◌++◌, length, codes, String, IsTrue, Result, Ok, Err}
 use Rattle.std.specs.String.{string_bytes}
 use Rattle.std.specs.Str.{bytes_eq}
 use Rattle.std.specs.List.{AllByRecursion}
+use Rattle.zb_types.specs.declared.geometry.Geometry.{Geometry}
+use Rattle.zb_types.specs.declared.lines.Line.{Line}
+use Rattle.zb_types.specs.declared.lines.Outcome.{Outcome}
 use Rattle.zb_types.specs.History.{tree_after}
-use Rattle.zb_claims.specs.Text.{tree_text}
-use Rattle.zb_claims.specs.First.{first_path}
-use Rattle.zb_claims.specs.Runs.{TellsTree, Prints, Runs, end_line, script_fault, read_fault, out_of_memory}
+use Rattle.zb_claims.specs.Text.{header_text, report_text, tree_text, spelled, IsLine, IsOutcome, max_script}
+use Rattle.zb_claims.specs.Points.{is_begun}
+use Rattle.zb_claims.specs.Fits.{FitLines}
+use Rattle.zb_claims.specs.Script.{Row, lines_in, is_comment, whole, Begins}
+use Rattle.zb_claims.specs.Runs.{TellsTree, Prints, RunsScript, RunsNone, last_line, end_line, script_fault, read_fault, out_of_memory}
 use Rattle.zb_outside.specs.Streams.{Streams, Rose}
 use Rattle.zb_world.specs.Seen.{Seen, has_work, IsFinished}
 use Rattle.zebra.specs.declared.ending.Halted.{Halted}
 use Rattle.zebra.specs.declared.ending.Halted.TheVariants.{Memory, ReadFault, WriteFault}
-use Rattle.zebra.specs.declared.run.Ending.{Ending}
-use Rattle.zebra.specs.declared.run.Ending.TheVariants.{Bad, End}
+use Rattle.zebra.specs.declared.reading.Ending.{Ending}
+use Rattle.zebra.specs.declared.reading.Ending.TheVariants.{Bad, Later, End}
 use Rattle.zebra.specs.declared.last.Last.{Last}
 use Rattle.zebra.specs.Pending.{Pending}
 use Rattle.zebra.specs.Moves.{Tape, IsRead, IsPrinted, TakesNone}
-use Rattle.zebra.specs.Calls.{IsFirstCall}
-use Rattle.zebra.specs.Running.{Start, front_of, EndsAt}
+use Rattle.zebra.specs.Rows.{is_built, is_built_row, AreRows, EndsAt}
+use Rattle.zebra.specs.Headers.{heads_text}
+use Rattle.zebra.specs.Running.{Start, front_of, place_of}
+
+-- the last line of a run that met a form that isn't built so far
+abbrev pub later_line : ℕ → List ℕ
+later_line number = last_line (codes "later") number
 
 -- what stands behind the lines of the calls
 abbrev pub IsLast : Ending → Seen → Last → Type 0
-IsLast Bad s last = (has_work s ≡ false) × (last.status ≡ 2) × (last.text.items ≡ script_fault (length s.calls + 2))
+IsLast (Bad number) s last = (has_work s ≡ false) × (last.status ≡ 2) × (last.text.items ≡ script_fault number)
+IsLast (Later number) s last = (has_work s ≡ false) × (last.status ≡ 10) × (last.text.items ≡ later_line number)
 IsLast End s last = IsFinished s × (last.status ≡ 0) × (last.text.items ≡ tree_text (tree_after s.updates) ++ end_line 0)
 
--- all lines of the script were run and printed, and this stands behind them
+-- all rows were run and the lines printed, and this stands behind them
 pub record HasEnded (start : Start) (tail : Last) (p : Pending) (s : Seen) (now : Tape) : Type 0 where
-  pub read : IsRead start.tape (front_of start s) p now
-  pub valid : AllByRecursion IsFirstCall s.calls
+  pub rows : List Row
+  pub valid : AreRows start.geo rows s.calls
+  pub reads : IsRead start.tape (front_of start rows) p now
+  pub limit : length (front_of start rows) ≤ max_script
   pub printed : IsPrinted start.tape.printed s now.printed
   pub ending : Ending
-  pub at : EndsAt ending p
+  pub ends : EndsAt ending (place_of start rows) p
   pub last : IsLast ending s tail
 
 -- these last bytes were printed with this status, or a front of them with status 4
@@ -46,6 +59,52 @@ PutsHalted Memory status before after = PutsLast out_of_memory 6 status before a
 PutsHalted ReadFault status before after = PutsLast read_fault 3 status before after
 PutsHalted WriteFault status before after = (status ≡ 4) × TakesNone before after × (after.printed ≡ before.printed)
 
+-- the last line of a script without a header that the program runs, or that memory ran out
+abbrev pub PutsFault : {E : Type 0} → Result Last E → ℕ → Tape → Tape → Type 0
+PutsFault (Ok last) status before after = PutsLast last.text.items last.status status before after
+PutsFault (Err e) status before after = PutsHalted Memory status before after
+
+-- a run of calls alone, behind a header of one client
+pub record RunsBuilt (status : ℕ) (bytes printed : List ℕ) : Type 0 where
+  pub run : RunsScript whole TellsTree status bytes printed
+  pub client : run.geo.clients ≡ 1
+  pub built : AllByRecursion (λ row. IsTrue (is_built_row row)) run.rows
+
+-- the header behind lines that say nothing has more clients, and the last line tells its number
+pub record StopsAtHeader (status : ℕ) (bytes printed : List ℕ) : Type 0 where
+  pub heads : List (List ℕ)
+  pub geo : Geometry
+  pub rest : List ℕ
+  pub text : bytes ≡ heads_text heads ++ header_text geo ++ rest
+  pub skipped_first : AllByRecursion (λ bytes. IsTrue (is_comment bytes)) heads
+  pub later : geo.clients ≢ 1
+  pub short : length bytes ≤ max_script + length rest
+  pub prints : Prints status printed 10 (later_line (length heads + 1))
+
+-- the line behind these rows isn't built, the rows were run, and the last line tells its number
+pub record StopsAtLine (status : ℕ) (bytes printed : List ℕ) : Type 0 where
+  pub geo : Geometry
+  pub rows : List Row
+  pub rest : List ℕ
+  pub begins : Begins whole bytes geo rows rest
+  pub client : geo.clients ≡ 1
+  pub built : AllByRecursion (λ row. IsTrue (is_built_row row)) rows
+  pub line : Line
+  pub valid_line : IsLine geo line
+  pub later : is_built line ≡ false
+  pub after : List ℕ
+  pub next : rest ≡ spelled line ++ after
+  pub short : length bytes ≤ max_script + length after
+  pub all : List Outcome
+  pub valid : AllByRecursion (IsOutcome geo) all
+  pub fits : FitLines true (lines_in rows) all
+  pub reached : is_begun (lines_in rows) all (length (lines_in rows)) ≡ true
+  pub prints : Prints status printed 10 (report_text all ++ later_line (length begins.heads + length rows + 2))
+
+-- what a run prints so far, for these bytes of a script
+abbrev pub RunsSoFar : ℕ → List ℕ → List ℕ → Type 0
+RunsSoFar status bytes printed = RunsBuilt status bytes printed ⊎ (RunsNone whole status bytes printed ⊎ (StopsAtHeader status bytes printed ⊎ StopsAtLine status bytes printed))
+
 -- what a run took and printed since this time is what the program promises, of the bytes taken and of the whole script
 pub record RunsFrom (status : ℕ) (start now : Tape) : Type 0 where
   pub took : List ℕ
@@ -53,8 +112,8 @@ pub record RunsFrom (status : ℕ) (start now : Tape) : Type 0 where
   pub taken : now.taken ≡ start.taken ++ took
   pub left : start.left ≡ took ++ now.left
   pub told : now.printed ≡ start.printed ++ printed
-  pub runs : Runs first_path TellsTree status took printed
-  pub script : Runs first_path TellsTree status start.left printed
+  pub runs : RunsSoFar status took printed
+  pub script : RunsSoFar status start.left printed
 
 -- a status that tells a fault comes only where the count of such faults rose, and no count falls
 pub record IsCaused (status : ℕ) (before after : Streams) : Type 0 where
@@ -65,7 +124,7 @@ pub record IsCaused (status : ℕ) (before after : Streams) : Type 0 where
 
 -- the statuses of a run
 abbrev pub IsStatus : ℕ → Type 0
-IsStatus status = (status ≡ 0) ⊎ ((status ≡ 2) ⊎ ((status ≡ 3) ⊎ ((status ≡ 4) ⊎ (status ≡ 6))))
+IsStatus status = (status ≡ 0) ⊎ ((status ≡ 2) ⊎ ((status ≡ 3) ⊎ ((status ≡ 4) ⊎ ((status ≡ 6) ⊎ (status ≡ 10)))))
 
 -- the one word `run`
 abbrev pub is_run : {Z : Type 0} → List (String Z) → Bool

@@ -1,6 +1,6 @@
 pub mod Pending
 pub mod Moves
-pub mod Calls
+pub mod Rows
 pub mod Running
 pub mod Headers
 pub mod Ends

@@ -1,6 +1,6 @@
 -- What a part of a run takes of the script and prints, and why it ends early.
 use Rattle.std.specs.Prelude.{◌≡◌, ℕ, ◌≤◌, true, List, [], ◌++◌, length, take, Result, MatchResult, IsErrOf}
-use Rattle.zb_claims.specs.Text.{report_text, max_script}
+use Rattle.zb_claims.specs.Text.{report_text}
 use Rattle.zb_outside.specs.Meaning.{Meaning}
 use Rattle.zb_outside.specs.Streams.{Streams, Rose}
 use Rattle.zb_world.specs.Seen.{Seen}
@@ -21,16 +21,13 @@ tape streams m = record { taken = m.now.taken; left = streams.left; printed = m.
 pub record IsRead (start : Tape) (front : List ℕ) (p : Pending) (now : Tape) : Type 0 where
   pub taken : now.taken ≡ start.taken ++ front ++ p.rest
   pub left : start.left ≡ front ++ p.rest ++ now.left
-  pub used : p.used ≡ length front
   pub ended : p.ended ≡ true → now.left ≡ []
-  pub limit : p.used ≤ max_script
 
 -- since the start, these bytes were used, and some more may have been taken
 pub record IsTaken (start : Tape) (front : List ℕ) (now : Tape) : Type 0 where
   pub rest : List ℕ
   pub taken : now.taken ≡ start.taken ++ front ++ rest
   pub left : start.left ≡ front ++ rest ++ now.left
-  pub limit : length front ≤ max_script
 
 -- whatever was read before, the pending bytes are those that were taken behind it
 abbrev pub StillReads : {T E : Type 0} → Result T E → Pending → Pending → Tape → Tape → Type 0

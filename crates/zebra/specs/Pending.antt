@@ -1,17 +1,14 @@
 -- The bytes of a script that were taken and not yet used.
 use Rattle.std.specs.Prelude.{ℕ, Bool, false, not, is_none, ◌&&◌, ◌==◌, nat_le, List, [], length, position}
+use Rattle.zb_script.specs.Places.{max_line}
 
 pub record Pending : Type 0 where
   pub rest : List ℕ
-  pub used : ℕ
   -- the script has no more bytes
   pub ended : Bool
 
 abbrev pub none_pending : Pending
-none_pending = record { rest = []; used = 0; ended = false }
-
-abbrev pub max_line : ℕ
-max_line = 17000
+none_pending = record { rest = []; ended = false }
 
 -- whether a line without an end may go on
 abbrev pub wants_more : Pending → Bool

@@ -1,35 +1,58 @@
--- A run on its way: the calls that it took of the script, and the lines that it printed.
-use Rattle.std.specs.Prelude.{◌≡◌, ℕ, false, List, ◌++◌}
-use Rattle.std.specs.List.{AllByRecursion}
+-- A run on its way: the rows that it read of the script, and the lines that it printed.
+use Rattle.std.specs.Prelude.{◌≡◌, ℕ, ◌+◌, ◌≤◌, false, List, ◌++◌, length, Option, Some, None}
+use Rattle.std.specs.List.{flat_map}
+use Rattle.zb_types.specs.declared.geometry.Geometry.{Geometry}
+use Rattle.zb_claims.specs.Text.{header_text, max_script}
+use Rattle.zb_claims.specs.Script.{Row, rows_text, ended_line}
+use Rattle.zb_script.specs.Places.{Place}
 use Rattle.zb_world.specs.Seen.{Seen, has_work}
 use Rattle.zebra.specs.declared.ending.Halted.{Halted}
-use Rattle.zebra.specs.declared.run.Ending.{Ending}
-use Rattle.zebra.specs.declared.run.Ending.TheVariants.{Bad, End}
+use Rattle.zebra.specs.declared.reading.Ending.{Ending}
 use Rattle.zebra.specs.Pending.{Pending}
 use Rattle.zebra.specs.Moves.{Tape, IsRead, IsTaken, IsPrinted, PrintsUntil}
-use Rattle.zebra.specs.Calls.{IsFirstCall, IsBadLine, IsAtEnd, calls_text}
+use Rattle.zebra.specs.Rows.{AreRows, EndsAt}
 
--- where a run began, and the header that it read
+-- where a run began, and the header that it read, with the lines before it
 pub record Start : Type 0 where
   pub tape : Tape
-  pub head : List ℕ
+  pub heads : List (List ℕ)
+  pub geo : Geometry
 
-abbrev pub front_of : Start → Seen → List ℕ
-front_of start s = start.head ++ calls_text s.calls
+-- the header with what stands before it, and these rows
+abbrev pub front_of : Start → List Row → List ℕ
+front_of start rows = flat_map ended_line start.heads ++ header_text start.geo ++ rows_text rows
 
--- each call that was given came from the script, and each line was printed
-pub record IsRunning (start : Start) (p : Pending) (s : Seen) (now : Tape) : Type 0 where
-  pub read : IsRead start.tape (front_of start s) p now
-  pub valid : AllByRecursion IsFirstCall s.calls
+abbrev pub place_of : Start → List Row → Place
+place_of start rows = record { geo = Some start.geo; lines = length start.heads + 1 + length rows; used = length (front_of start rows) }
+
+-- each row was read, its call was given, and each line was printed
+pub record IsRunning (start : Start) (place : Place) (p : Pending) (s : Seen) (now : Tape) : Type 0 where
+  pub rows : List Row
+  pub valid : AreRows start.geo rows s.calls
+  pub reads : IsRead start.tape (front_of start rows) p now
+  pub at : place ≡ place_of start rows
+  pub limit : length (front_of start rows) ≤ max_script
+  pub idle : has_work s ≡ false
+  pub printed : IsPrinted start.tape.printed s now.printed
+
+-- no row follows, or none that the program runs so far
+pub record HasStopped (ending : Ending) (start : Start) (p : Pending) (s : Seen) (now : Tape) : Type 0 where
+  pub rows : List Row
+  pub valid : AreRows start.geo rows s.calls
+  pub reads : IsRead start.tape (front_of start rows) p now
+  pub limit : length (front_of start rows) ≤ max_script
+  pub ends : EndsAt ending (place_of start rows) p
   pub idle : has_work s ≡ false
   pub printed : IsPrinted start.tape.printed s now.printed
 
 -- the run broke off
 pub record IsBroken (halted : Halted) (start : Start) (s : Seen) (now : Tape) : Type 0 where
-  pub read : IsTaken start.tape (front_of start s) now
-  pub valid : AllByRecursion IsFirstCall s.calls
+  pub rows : List Row
+  pub valid : AreRows start.geo rows s.calls
+  pub reads : IsTaken start.tape (front_of start rows) now
+  pub limit : length (front_of start rows) ≤ max_script
   pub printed : PrintsUntil halted start.tape.printed s now.printed
 
-abbrev pub EndsAt : Ending → Pending → Type 0
-EndsAt Bad p = IsBadLine p
-EndsAt End p = IsAtEnd p
+abbrev pub GoesOn : Option Ending → Start → Place → Pending → Seen → Tape → Type 0
+GoesOn None start place p s now = IsRunning start place p s now
+GoesOn (Some ending) start place p s now = HasStopped ending start p s now

@@ -2,6 +2,22 @@ use std::alloc::AllocError;
 use zb_types::{Failed, NoMemory};
 use zb_world::Halt;
 
+// The exit statuses of the program.
+/// The script was read to its end.
+pub const DONE: u8 = 0;
+/// A line of the script isn't one of the language.
+pub const BAD_SCRIPT: u8 = 2;
+/// The script couldn't be read.
+pub const READ_FAULT: u8 = 3;
+/// The report couldn't be written.
+pub const WRITE_FAULT: u8 = 4;
+/// The words aren't those of a command.
+pub const USAGE: u8 = 5;
+/// Memory ran out.
+pub const NO_MEMORY: u8 = 6;
+/// A line of the script has a form that the program doesn't run so far.
+pub const LATER: u8 = 10;
+
 /// Why a run ends before its script does.
 #[derive(Clone, Copy, Debug, PartialEq, Eq)]
 pub enum Halted {

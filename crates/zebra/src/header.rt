@@ -1,52 +1,33 @@
-ghost use Rattle.std.specs.Prelude.{◌≡◌, ◌≤◌, ◌<◌, [], OnOk, IsTrue, IfOk, IfSome, IfNone, false, length};
+ghost use Rattle.std.specs.Prelude.{◌≡◌, ◌≤◌, ◌<◌, ◌-◌, IsTrue, IfOk, IfSome, OnOk, false, None, Some};
 ghost use Rattle.zb_claims.specs.Text.{max_script};
-ghost use Rattle.zb_claims.specs.First.{IsFirstGeometry};
 ghost use Rattle.zebra.specs.Pending.{wants_more};
 ghost use Rattle.zebra.specs.Moves.{tape, StillReads, HasCause};
-ghost use Rattle.zebra.specs.Headers.{is_first_geometry, IsHeaderOf, LacksHeader, Heads};
+ghost use Rattle.zebra.specs.Headers.{HeadIs, HeadMoves, IsSystemOf, StillHeads, Heads};
 
 use crate::ending::Halted;
-use crate::source::{Source, line_end};
+use crate::source::Source;
 use std::alloc::Global;
 use zb_outside::Outside;
-use zb_script::read_header;
-use zb_types::Geometry;
+use zb_script::{Parsed, Script};
+use zb_types::{Geometry, Mem, NoMemory};
 
 /// Bytes that are taken at once.
 const PIECE: usize = 4_096;
 
-// Whether the program runs a system of these sizes so far.
-fn is_first_geometry(geo: &Geometry) -> bool
-    ensures { result ≡ is_first_geometry geo.now }
-{
-    geo.servers == 3
-        && geo.clients == 1
-        && geo.fragment == 256
-        && geo.block == 64
-        && geo.slots == 32
-}
-
-// The system whose header the pending bytes begin with, and how many bytes the header has with its line end.
-fn first_header(source: &Source) -> Option<(Geometry, usize)>
-    requires { wants_more source.now ≡ false }
-    ensures found { IfSome result (λ found. IsHeaderOf source.now.rest found.0 found.1) }
-    ensures none { IfNone result (LacksHeader source.now) }
-{
-    let bytes = source.rest();
-    let end = line_end(bytes)?;
-    let (words, _) = bytes.split_at(end);
-    let geo = read_header(words)?;
-    if is_first_geometry(&geo) {
-        Some((geo, end + 1))
-    } else {
-        None
-    }
+/// What the first line of a script is that says something.
+#[derive(Clone, Copy, Debug, PartialEq, Eq)]
+pub enum Heading {
+    /// The header of a system that the program runs.
+    System(Geometry),
+    /// No header: the line with this number isn't one.
+    Missing { number: u64 },
+    /// The header of a system that the program doesn't run so far, in the line with this number.
+    Later { number: u64 },
 }
 
 // Takes bytes until a line is whole, or the script has no more.
 fn fill<O: Outside + Drop>(alloc: Global, source: &mut Source, out: &mut O) -> Result<(), Halted>
     ensures whole { OnOk result (wants_more source.new ≡ false) }
-    ensures used { source.new.used ≡ source.old.used }
     ensures told { IsTrue O.tells → StillReads result source.old source.new (tape (O.streams out.old) (O.meaning out.old)) (tape (O.streams out.new) (O.meaning out.new)) }
     ensures prints { IsTrue O.tells → (O.meaning out.new).now.printed ≡ (O.meaning out.old).now.printed }
     ensures cause { HasCause result (O.streams out.old) (O.streams out.new) }
@@ -59,23 +40,79 @@ fn fill<O: Outside + Drop>(alloc: Global, source: &mut Source, out: &mut O) -> R
     Ok(())
 }
 
-/// Reads the header of a script. None where its first line isn't the header of a system that the program runs so far.
-pub fn read_head<O: Outside + Drop>(
+// What comes next where no header was read.
+#[derive(Clone, Copy, Debug, PartialEq, Eq)]
+enum Head {
+    Skipped { len: usize },
+    Header { geo: Geometry, len: usize },
+    Missing { number: u64 },
+}
+
+// Reads what the pending bytes begin with, before the header.
+fn next_head(alloc: Global, script: &mut Script, source: &Source) -> Mem<Head>
+    requires none { script.old.geo ≡ None }
+    requires whole { wants_more source.now ≡ false }
+    ensures next { IfOk result (HeadIs script.old source.now) }
+    ensures moves { IfOk result (λ head. HeadMoves script.old head script.new) }
+{
+    let number = script.line_number();
+    Ok(match script.next(alloc, source.rest())? {
+        Parsed::Skipped { used } => Head::Skipped { len: used },
+        Parsed::Header { geo, used } => Head::Header { geo, len: used },
+        Parsed::Bad { number } => Head::Missing { number },
+        Parsed::More => Head::Missing { number },
+        Parsed::Line { .. } => Head::Missing { number },
+    })
+}
+
+// Reads a line before the header, or the header. None where the line says nothing.
+fn read_line<O: Outside + Drop>(
     alloc: Global,
+    script: &mut Script,
     source: &mut Source,
     out: &mut O,
-) -> Result<Option<Geometry>, Halted>
-    requires new { source.old.used ≡ 0 }
-    ensures first { IfOk result (λ found. IfSome found IsFirstGeometry) }
-    ensures limit { OnOk result (source.new.used ≤ max_script) }
+) -> Result<Option<Heading>, Halted>
+    requires none { script.old.geo ≡ None }
+    ensures system { IfOk result (λ found. IfSome found (IsSystemOf script.new.geo)) }
+    ensures more { IfOk result (λ found. found ≡ None → (script.new.geo ≡ None) × (script.old.used < script.new.used) × (script.new.used ≤ max_script)) }
+    ensures told { IsTrue O.tells → StillHeads result script.old source.old (tape (O.streams out.old) (O.meaning out.old)) script.new source.new (tape (O.streams out.new) (O.meaning out.new)) }
     ensures prints { IsTrue O.tells → (O.meaning out.new).now.printed ≡ (O.meaning out.old).now.printed }
-    ensures told { IsTrue O.tells → Heads result source.old source.new (tape (O.streams out.old) (O.meaning out.old)) (tape (O.streams out.new) (O.meaning out.new)) }
     ensures cause { HasCause result (O.streams out.old) (O.streams out.new) }
 {
     fill(alloc, source, out)?;
-    let Some((geo, len)) = first_header(source) else {
-        return Ok(None);
-    };
-    source.skip(len);
-    Ok(Some(geo))
+    let number = script.line_number();
+    match next_head(alloc, script, source)? {
+        Head::Skipped { len } => {
+            source.skip(len);
+            Ok(None)
+        }
+        Head::Header { geo, len } => {
+            if geo.clients != 1 {
+                return Ok(Some(Heading::Later { number }));
+            }
+            source.skip(len);
+            Ok(Some(Heading::System(geo)))
+        }
+        Head::Missing { number } => Ok(Some(Heading::Missing { number })),
+    }
+}
+
+/// Reads the header of a script, and the empty lines and comments before it.
+pub fn read_head<O: Outside + Drop>(
+    alloc: Global,
+    script: &mut Script,
+    source: &mut Source,
+    out: &mut O,
+) -> Result<Heading, Halted>
+    requires none { script.old.geo ≡ None }
+    ensures system { IfOk result (IsSystemOf script.new.geo) }
+    ensures prints { IsTrue O.tells → (O.meaning out.new).now.printed ≡ (O.meaning out.old).now.printed }
+    ensures told { IsTrue O.tells → Heads result script.old source.old (tape (O.streams out.old) (O.meaning out.old)) script.new source.new (tape (O.streams out.new) (O.meaning out.new)) }
+    ensures cause { HasCause result (O.streams out.old) (O.streams out.new) }
+{
+    'lines: loop {
+        if let Some(heading) = read_line(alloc, script, source, out)? {
+            return Ok(heading);
+        }
+    }
 }

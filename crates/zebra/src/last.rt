@@ -1,12 +1,12 @@
-ghost use Rattle.std.specs.Prelude.{◌≡◌, ◌<◌, ◌++◌, ◌+◌, ◌^◌, OnOk, IsTrue, IfOk, false, length};
+ghost use Rattle.std.specs.Prelude.{◌≡◌, ◌++◌, OnOk, IsTrue, IfOk, false};
 ghost use Rattle.zb_claims.specs.Text.{list_text};
-ghost use Rattle.zb_claims.specs.Runs.{end_line, script_fault};
+ghost use Rattle.zb_claims.specs.Runs.{last_line, end_line, script_fault};
 ghost use Rattle.zb_world.specs.Seen.{has_work, IsFinished};
 ghost use Rattle.zebra.specs.Moves.{tape, StillPrints, TakesNone, HasCause};
-ghost use Rattle.zebra.specs.Ends.{IsLast};
+ghost use Rattle.zebra.specs.Ends.{IsLast, later_line};
 
-use crate::ending::Halted;
-use crate::run::Ending;
+use crate::ending::{BAD_SCRIPT, DONE, Halted, LATER};
+use crate::reading::Ending;
 use std::alloc::Global;
 use zb_outside::Outside;
 use zb_report::{number_into, tree};
@@ -43,15 +43,36 @@ fn end_text(alloc: Global, list: &TreeList) -> Mem<Vec<u8>>
     Ok(text)
 }
 
-// The line that tells which line of a script is none.
-fn fault_text(alloc: Global, number: u64) -> Mem<Vec<u8>>
-    ensures { IfOk result (λ text. text.items ≡ script_fault number) }
+// A last line of a word and a number.
+fn last_line(alloc: Global, word: &[u8], number: u64) -> Mem<Vec<u8>>
+    ensures { IfOk result (λ text. text.items ≡ last_line word.now number) }
 {
     let mut text = Vec::new(alloc);
-    text.extend_from_slice(b"script ")?;
+    text.extend_from_slice(word)?;
+    text.push(b' ')?;
     number_into(alloc, &mut text, number)?;
     text.push(b'\n')?;
     Ok(text)
+}
+
+/// The last line where this line of a script isn't one of the language.
+pub fn bad_line(alloc: Global, number: u64) -> Mem<Last>
+    ensures { IfOk result (λ last. (last.status ≡ 2) × (last.text.items ≡ script_fault number)) }
+{
+    Ok(Last {
+        text: last_line(alloc, b"script", number)?,
+        status: BAD_SCRIPT,
+    })
+}
+
+/// The last line where the program doesn't run this line of a script so far.
+pub fn later_line(alloc: Global, number: u64) -> Mem<Last>
+    ensures { IfOk result (λ last. (last.status ≡ 10) × (last.text.items ≡ later_line number)) }
+{
+    Ok(Last {
+        text: last_line(alloc, b"later", number)?,
+        status: LATER,
+    })
 }
 
 /// Answers all calls of a script that was read to its end, and prints their lines; gives what stands behind them.
@@ -68,17 +89,15 @@ pub fn last_of<O: Outside + Drop>(
     ensures cause { HasCause result (O.streams world.old.out) (O.streams world.new.out) }
 {
     match ending {
-        Ending::Bad => Ok(Last {
-            text: fault_text(alloc, world.count() + 2)?,
-            status: 2,
-        }),
+        Ending::Bad { number } => Ok(bad_line(alloc, number)?),
+        Ending::Later { number } => Ok(later_line(alloc, number)?),
         Ending::End => {
             finish(alloc, world)?;
             let text = match world.tree(alloc)? {
                 Some(list) => end_text(alloc, &list)?,
                 None => Vec::new(alloc),
             };
-            Ok(Last { text, status: 0 })
+            Ok(Last { text, status: DONE })
         }
     }
 }

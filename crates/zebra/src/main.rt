@@ -28,7 +28,7 @@ fn main(rt: HostRuntime) -> ExitCode {
             return ExitCode::from(6);
         }
     }
-    let outside = FileOutside::new(rt.reader(), io::writer(&rt));
+    let outside = FileOutside::new(&rt, rt.alloc(), rt.reader(), io::writer(&rt));
     let (Status(status), _) = zebra_run(rt.alloc(), &words, outside);
     ExitCode::from(status)
 }

@@ -1,27 +1,27 @@
-ghost use Rattle.std.specs.Prelude.{◌≡◌, ◌⊎◌, ◌∷◌, ◌≤◌, [], IsTrue, IfOk, IfErr, true, false, codes, map, MatchResult};
-ghost use Rattle.zb_claims.specs.Text.{header_text, max_script};
-ghost use Rattle.zb_claims.specs.First.{IsFirstGeometry};
+ghost use Rattle.std.specs.Prelude.{◌≡◌, ◌⊎◌, ◌≤◌, Some, IsTrue, IfOk, true, false, MatchResult};
 ghost use Rattle.zb_claims.specs.Runs.{usage, read_fault, out_of_memory};
 ghost use Rattle.zb_outside.specs.Streams.{Rose};
 ghost use Rattle.zb_world.specs.Seen.{has_work};
-ghost use Rattle.zebra.specs.Pending.{none_pending};
-ghost use Rattle.zebra.specs.Moves.{Tape, tape, IsRead, HasCause};
+ghost use Rattle.zebra.specs.Moves.{Tape, tape, HasCause};
+ghost use Rattle.zebra.specs.Rows.{IsOfOne};
+ghost use Rattle.zebra.specs.Headers.{HasSystem};
 ghost use Rattle.zebra.specs.Running.{Start, IsRunning, IsBroken};
-ghost use Rattle.zebra.specs.Ends.{HasEnded, PutsLast, PutsHalted, RunsFrom, IsStatus, IsCaused, is_run};
+ghost use Rattle.zebra.specs.Ends.{HasEnded, PutsLast, PutsFault, PutsHalted, RunsFrom, IsStatus, IsCaused, is_run};
 
-use crate::ending::Halted;
-use crate::header::read_head;
-use crate::last::{Last, last_of};
-use crate::run::run_lines;
+use crate::ending::{Halted, NO_MEMORY, READ_FAULT, USAGE, WRITE_FAULT};
+use crate::header::{Heading, read_head};
+use crate::last::{Last, bad_line, last_of, later_line};
+use crate::run::run_rows;
 use crate::source::Source;
 use std::alloc::Global;
 use zb_outside::Outside;
-use zb_types::Geometry;
+use zb_script::Script;
+use zb_types::{Geometry, Mem, NoMemory};
 use zb_world::World;
 
 /// How a run ended, as the exit status of the program: 0 at the end of the script, 2 at a line that is none of the
 /// script's language, 3 where the script can't be read, 4 where the report can't be written, 5 for other words than
-/// `run`, and 6 for want of memory.
+/// `run`, 6 for want of memory, and 10 at a line whose form the program doesn't run so far.
 #[derive(Clone, Copy, Debug, PartialEq, Eq)]
 pub struct Status(pub u8);
 
@@ -35,7 +35,7 @@ fn put_last<O: Outside + Drop>(out: &mut O, bytes: &[u8], status: u8) -> Status
 {
     match out.put(bytes) {
         Ok(()) => Status(status),
-        Err(_) => Status(4),
+        Err(_) => Status(WRITE_FAULT),
     }
 }
 
@@ -49,27 +49,41 @@ fn put_halted<O: Outside + Drop>(out: &mut O, halted: Halted) -> Status
     ensures writes { (O.streams out.old).write_faults ≤ (O.streams out.new).write_faults }
 {
     match halted {
-        Halted::Memory => put_last(out, b"out of memory\n", 6),
-        Halted::ReadFault => put_last(out, b"read fault\n", 3),
-        Halted::WriteFault => Status(4),
+        Halted::Memory => put_last(out, b"out of memory\n", NO_MEMORY),
+        Halted::ReadFault => put_last(out, b"read fault\n", READ_FAULT),
+        Halted::WriteFault => Status(WRITE_FAULT),
     }
 }
 
-// Runs all lines of a script behind its header, and gives what stands behind theirs.
+// Prints the last line of a script without a header that the program runs.
+fn put_fault<O: Outside + Drop>(out: &mut O, last: Mem<Last>) -> Status
+    requires { IfOk last (λ last. (last.status ≡ 2) ⊎ (last.status ≡ 10)) }
+    ensures told { IsTrue O.tells → PutsFault last result.0 (tape (O.streams out.old) (O.meaning out.old)) (tape (O.streams out.new) (O.meaning out.new)) }
+    ensures status { (result.0 ≡ 2) ⊎ ((result.0 ≡ 10) ⊎ ((result.0 ≡ 4) ⊎ (result.0 ≡ 6))) }
+    ensures write { result.0 ≡ 4 → Rose (O.streams out.old).write_faults (O.streams out.new).write_faults }
+    ensures reads { (O.streams out.new).read_faults ≡ (O.streams out.old).read_faults }
+    ensures writes { (O.streams out.old).write_faults ≤ (O.streams out.new).write_faults }
+{
+    match last {
+        Ok(last) => put_last(out, &last.text, last.status),
+        Err(NoMemory) => put_halted(out, Halted::Memory),
+    }
+}
+
+// Runs all rows of a script behind its header, and gives what stands behind their lines.
 fn run_all<O: Outside + Drop>(
     alloc: Global,
-    geo: &Geometry,
+    script: &mut Script,
     source: &mut Source,
     world: &mut World<O>,
 ) -> Result<Last, Halted>
-    requires clients { geo.now.clients ≡ 1 }
-    requires limit { source.old.used ≤ max_script }
+    requires one { IsOfOne script.old.geo }
     requires idle { has_work world.old.seen ≡ false }
-    ensures status { IfOk result (λ last. (last.status ≡ 0) ⊎ (last.status ≡ 2)) }
-    ensures told { IsTrue O.tells → (start : Start) → IsRunning start source.old world.old.seen (tape (O.streams world.old.out) (O.meaning world.old.out)) → MatchResult result (λ last. HasEnded start last source.new world.new.seen (tape (O.streams world.new.out) (O.meaning world.new.out))) (λ halted. IsBroken halted start world.new.seen (tape (O.streams world.new.out) (O.meaning world.new.out))) }
+    ensures status { IfOk result (λ last. (last.status ≡ 0) ⊎ ((last.status ≡ 2) ⊎ (last.status ≡ 10))) }
+    ensures told { IsTrue O.tells → (start : Start) → IsRunning start script.old source.old world.old.seen (tape (O.streams world.old.out) (O.meaning world.old.out)) → MatchResult result (λ last. HasEnded start last source.new world.new.seen (tape (O.streams world.new.out) (O.meaning world.new.out))) (λ halted. IsBroken halted start world.new.seen (tape (O.streams world.new.out) (O.meaning world.new.out))) }
     ensures cause { HasCause result (O.streams world.old.out) (O.streams world.new.out) }
 {
-    let ending = run_lines(alloc, geo, source, world)?;
+    let ending = run_rows(alloc, script, source, world)?;
     last_of(alloc, world, ending)
 }
 
@@ -77,15 +91,17 @@ fn run_all<O: Outside + Drop>(
 fn run_script<O: Outside + Drop>(
     alloc: Global,
     geo: Geometry,
+    script: Script,
     source: Source,
     out: O,
 ) -> (Status, O)
-    requires first { IsFirstGeometry geo }
-    requires limit { source.used ≤ max_script }
-    ensures told { IsTrue O.tells → (start : Tape) → IsRead start (header_text geo) source (tape (O.streams out) (O.meaning out)) → start.printed ≡ (O.meaning out).now.printed → RunsFrom result.0.0 start (tape (O.streams result.1) (O.meaning result.1)) }
+    requires client { geo.clients ≡ 1 }
+    requires system { script.geo ≡ Some geo }
+    ensures told { IsTrue O.tells → (start : Tape) → HasSystem start geo script source (tape (O.streams out) (O.meaning out)) → start.printed ≡ (O.meaning out).now.printed → RunsFrom result.0.0 start (tape (O.streams result.1) (O.meaning result.1)) }
     ensures status { IsStatus result.0.0 }
     ensures cause { IsCaused result.0.0 (O.streams out) (O.streams result.1) }
 {
+    let mut script = script;
     let mut source = source;
     let mut world = match World::new(alloc, geo, out) {
         Ok(world) => world,
@@ -94,7 +110,7 @@ fn run_script<O: Outside + Drop>(
             return (status, out);
         }
     };
-    let last = run_all(alloc, &geo, &mut source, &mut world);
+    let last = run_all(alloc, &mut script, &mut source, &mut world);
     let mut out = world.outside();
     let status = match last {
         Ok(last) => put_last(&mut out, &last.text, last.status),
@@ -123,13 +139,15 @@ pub fn zebra_run<O: Outside + Drop>(alloc: Global, words: &[String], out: O) -> 
 {
     let mut out = out;
     if !is_run(words) {
-        let status = put_last(&mut out, b"usage\n", 5);
+        let status = put_last(&mut out, b"usage\n", USAGE);
         return (status, out);
     }
+    let mut script = Script::new();
     let mut source = Source::new(alloc);
-    let status = match read_head(alloc, &mut source, &mut out) {
-        Ok(Some(geo)) => return run_script(alloc, geo, source, out),
-        Ok(None) => put_last(&mut out, b"script 1\n", 2),
+    let status = match read_head(alloc, &mut script, &mut source, &mut out) {
+        Ok(Heading::System(geo)) => return run_script(alloc, geo, script, source, out),
+        Ok(Heading::Missing { number }) => put_fault(&mut out, bad_line(alloc, number)),
+        Ok(Heading::Later { number }) => put_fault(&mut out, later_line(alloc, number)),
         Err(halted) => put_halted(&mut out, halted),
     };
     (status, out)

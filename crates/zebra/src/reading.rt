@@ -1,106 +1,74 @@
-ghost use Rattle.std.specs.Prelude.{◌≡◌, ◌≤◌, ◌+◌, ◌<◌, [], IfOk, IsSome, true, false, ◌||◌, nat_lt, length, position, is_some, ◌==◌};
-ghost use Rattle.std.specs.List.{list_any};
-ghost use Rattle.zb_claims.specs.Reading.{Reads};
-ghost use Rattle.zb_claims.specs.First.{has_one_name, is_first_call};
-ghost use Rattle.zb_claims.specs.Text.{max_script};
-ghost use Rattle.zebra.specs.Calls.{IsFirstCall, call_words, first_of, NextIs};
+ghost use Rattle.std.specs.Prelude.{◌≡◌, ◌≢◌, [], false, IfOk};
+ghost use Rattle.zebra.specs.Rows.{IsOfOne, next_of, NextIs, MovesOn};
 ghost use Rattle.zebra.specs.Pending.{wants_more};
 
-use crate::source::{Source, line_end};
+use crate::source::Source;
 use std::alloc::Global;
-use zb_script::read_line;
-use zb_types::{Call, Geometry, Line, Mem, NoMemory, Path};
+use zb_script::{Parsed, Script};
+use zb_types::{Call, Line, Mem, NoMemory};
 
-/// How many bytes a script has at most.
-const MAX_SCRIPT: usize = 67_108_864;
-
-fn has_slash(bytes: &[u8]) -> bool
-    ensures { result ≡ list_any (λ b. b == 47) bytes.now }
-{
-    bytes.iter().any(|b| *b == b'/')
+/// Where the rows of a script end.
+#[derive(Clone, Copy, Debug, PartialEq, Eq)]
+pub enum Ending {
+    /// At the end of the script.
+    End,
+    /// At the line with this number, which isn't one of the language, or reaches past the script's limit.
+    Bad { number: u64 },
+    /// At the line with this number, whose form the program doesn't run so far.
+    Later { number: u64 },
 }
 
-fn has_one_name(path: &Path) -> bool
-    ensures { result ≡ has_one_name path.now }
-{
-    let names = path.slice().get(1..).unwrap_or(&[]);
-    !has_slash(names)
+/// What comes next in a script behind its header. A row with its end has `len` bytes.
+#[derive(Drop)]
+pub enum Next {
+    /// A call that is waited for.
+    Call { client: u8, call: Call, len: usize },
+    /// An empty line or a comment.
+    Skipped { len: usize },
+    Ended(Ending),
 }
 
-// Whether the program runs this call so far.
-fn is_first_call(call: &Call) -> bool
-    ensures { result ≡ is_first_call call.now }
-{
-    match call {
-        Call::Create(path) => has_one_name(path),
-        Call::Write { .. } | Call::Sync | Call::Read { .. } => true,
-        _ => false,
-    }
-}
-
-// The call of a line, if the program runs such a line so far.
-fn first_of(line: Line) -> Option<Call>
-    ensures { result ≡ first_of line }
+// What a line asks for, if the program runs such a line so far.
+fn next_of(number: u64, line: Line, len: usize) -> Next
+    ensures { result ≡ next_of number line len }
 {
     match line {
         Line::Call {
             plus: false,
-            client: _,
+            client,
             call,
-        } => {
-            if is_first_call(&call) {
-                Some(call)
-            } else {
-                None
-            }
-        }
-        _ => None,
+        } => Next::Call { client, call, len },
+        _ => Next::Ended(Ending::Later { number }),
     }
 }
 
-// The call of the one client that a line spells, without its line end.
-fn read_first(alloc: Global, geo: &Geometry, line: &[u8]) -> Mem<Option<Call>>
-    requires { geo.now.clients ≡ 1 }
-    ensures { IfOk result (λ found. Reads IsFirstCall call_words line.now found) }
+// Where a script ends whose pending bytes have no line end and may not go on.
+fn unended(number: u64, rest: &[u8]) -> Ending
+    ensures none { rest.now ≡ [] → result ≡ Ending.End }
+    ensures some { rest.now ≢ [] → result ≡ Ending.Bad number }
 {
-    match read_line(alloc, geo, line)? {
-        None => Ok(None),
-        Some(line) => Ok(first_of(line)),
+    if rest.is_empty() {
+        Ending::End
+    } else {
+        Ending::Bad { number }
     }
 }
 
-/// What comes next in a script.
-#[derive(Drop)]
-pub enum Next {
-    /// A call, whose line with its end has so many bytes.
-    Line { call: Call, len: usize },
-    /// A line that isn't one of the script's language, or reaches past the script's limit.
-    Bad,
-    /// No line.
-    End,
-}
-
-/// What the pending bytes begin with.
-pub fn next_line(alloc: Global, geo: &Geometry, source: &Source) -> Mem<Next>
-    requires clients { geo.now.clients ≡ 1 }
+/// Reads what the pending bytes begin with.
+pub fn next_row(alloc: Global, script: &mut Script, source: &Source) -> Mem<Next>
+    requires one { IsOfOne script.old.geo }
     requires whole { wants_more source.now ≡ false }
-    requires limit { source.now.used ≤ max_script }
-    ensures { IfOk result (NextIs source.now) }
+    ensures next { IfOk result (NextIs script.old source.now) }
+    ensures moves { IfOk result (λ next. MovesOn script.old next script.new) }
+    ensures geo { script.new.geo ≡ script.old.geo }
 {
+    let number = script.line_number();
     let rest = source.rest();
-    let Some(end) = line_end(rest) else {
-        return Ok(if rest.is_empty() {
-            Next::End
-        } else {
-            Next::Bad
-        });
-    };
-    if end >= MAX_SCRIPT - source.used() {
-        return Ok(Next::Bad);
-    }
-    let (line, _) = rest.split_at(end);
-    match read_first(alloc, geo, line)? {
-        Some(call) => Ok(Next::Line { call, len: end + 1 }),
-        None => Ok(Next::Bad),
-    }
+    Ok(match script.next(alloc, rest)? {
+        Parsed::Line { line, used } => next_of(number, line, used),
+        Parsed::Skipped { used } => Next::Skipped { len: used },
+        Parsed::More => Next::Ended(unended(number, rest)),
+        Parsed::Bad { number } => Next::Ended(Ending::Bad { number }),
+        Parsed::Header { .. } => Next::Ended(Ending::Bad { number }),
+    })
 }

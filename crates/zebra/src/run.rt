@@ -1,32 +1,24 @@
-ghost use Rattle.std.specs.Prelude.{◌≡◌, ◌<◌, ◌≤◌, None, OnOk, IsTrue, IfOk, IfSome, true, false, length, MatchResult};
-ghost use Rattle.zb_types.specs.declared.geometry.Geometry.{Geometry};
-ghost use Rattle.zb_world.specs.Seen.{has_work};
+ghost use Rattle.std.specs.Prelude.{◌≡◌, ◌<◌, ◌≤◌, ◌-◌, None, OnOk, IsTrue, IfOk, false, MatchResult};
 ghost use Rattle.zb_claims.specs.Text.{max_script};
+ghost use Rattle.zb_world.specs.Seen.{has_work};
 ghost use Rattle.zebra.specs.Pending.{wants_more};
 ghost use Rattle.zebra.specs.Moves.{tape, StillReads, StillPrints, TakesNone, HasCause};
-ghost use Rattle.zebra.specs.Running.{Start, IsRunning, IsBroken, EndsAt};
+ghost use Rattle.zebra.specs.Rows.{IsOfOne};
+ghost use Rattle.zebra.specs.Running.{Start, IsRunning, GoesOn, HasStopped, IsBroken};
 
 use crate::ending::Halted;
-use crate::reading::{Next, next_line};
+use crate::reading::{Ending, Next, next_row};
 use crate::source::Source;
 use std::alloc::Global;
 use zb_outside::Outside;
-use zb_types::{Failed, Geometry, Node};
+use zb_script::Script;
+use zb_types::{Failed, Node};
 use zb_world::{Step, World};
 
 /// Bytes that are taken at once.
 const PIECE: usize = 4_096;
 
 const CLIENT: u8 = 1;
-
-/// Where the lines of a script ended.
-#[derive(Clone, Copy, Debug, PartialEq, Eq)]
-pub enum Ending {
-    /// At a line that isn't one of the language, or reaches past the script's limit.
-    Bad,
-    /// At the end of the script.
-    End,
-}
 
 // Takes bytes until a line is whole, or the script has no more.
 fn fill<O: Outside + Drop>(
@@ -35,7 +27,6 @@ fn fill<O: Outside + Drop>(
     world: &mut World<O>,
 ) -> Result<(), Halted>
     ensures whole { OnOk result (wants_more source.new ≡ false) }
-    ensures used { source.new.used ≡ source.old.used }
     ensures seen { world.new.seen ≡ world.old.seen }
     ensures told { IsTrue O.tells → StillReads result source.old source.new (tape (O.streams world.old.out) (O.meaning world.old.out)) (tape (O.streams world.new.out) (O.meaning world.new.out)) }
     ensures prints { IsTrue O.tells → (O.meaning world.new.out).now.printed ≡ (O.meaning world.old.out).now.printed }
@@ -63,53 +54,52 @@ fn settle<O: Outside + Drop>(alloc: Global, world: &mut World<O>) -> Result<(), 
     Ok(())
 }
 
-// Runs the next line of the script, or says where its lines ended.
-fn run_line<O: Outside + Drop>(
+// Runs the next row of the script, or says where its rows ended.
+fn run_row<O: Outside + Drop>(
     alloc: Global,
-    geo: &Geometry,
+    script: &mut Script,
     source: &mut Source,
     world: &mut World<O>,
 ) -> Result<Option<Ending>, Halted>
-    requires clients { geo.now.clients ≡ 1 }
-    requires limit { source.old.used ≤ max_script }
+    requires one { IsOfOne script.old.geo }
     requires idle { has_work world.old.seen ≡ false }
     ensures idle { OnOk result (has_work world.new.seen ≡ false) }
-    ensures limit { source.new.used ≤ max_script }
-    ensures more { IfOk result (λ ended. ended ≡ None → source.old.used < source.new.used) }
-    ensures told { IsTrue O.tells → (start : Start) → IsRunning start source.old world.old.seen (tape (O.streams world.old.out) (O.meaning world.old.out)) → MatchResult result (λ _. IsRunning start source.new world.new.seen (tape (O.streams world.new.out) (O.meaning world.new.out))) (λ halted. IsBroken halted start world.new.seen (tape (O.streams world.new.out) (O.meaning world.new.out))) }
-    ensures ends { IfOk result (λ ended. IfSome ended (λ ending. EndsAt ending source.new)) }
+    ensures one { IsOfOne script.new.geo }
+    ensures more { IfOk result (λ ended. ended ≡ None → (script.old.used < script.new.used) × (script.new.used ≤ max_script)) }
+    ensures told { IsTrue O.tells → (start : Start) → IsRunning start script.old source.old world.old.seen (tape (O.streams world.old.out) (O.meaning world.old.out)) → MatchResult result (λ ended. GoesOn ended start script.new source.new world.new.seen (tape (O.streams world.new.out) (O.meaning world.new.out))) (λ halted. IsBroken halted start world.new.seen (tape (O.streams world.new.out) (O.meaning world.new.out))) }
     ensures cause { HasCause result (O.streams world.old.out) (O.streams world.new.out) }
 {
     fill(alloc, source, world)?;
-    match next_line(alloc, geo, source)? {
-        Next::Line { call, len } => {
-            world.call(alloc, CLIENT, call)?;
+    match next_row(alloc, script, source)? {
+        Next::Call { client, call, len } => {
+            world.call(alloc, client, call)?;
             source.skip(len);
             settle(alloc, world)?;
             Ok(None)
         }
-        Next::Bad => Ok(Some(Ending::Bad)),
-        Next::End => Ok(Some(Ending::End)),
+        Next::Skipped { len } => {
+            source.skip(len);
+            Ok(None)
+        }
+        Next::Ended(ending) => Ok(Some(ending)),
     }
 }
 
-/// Runs the lines of a script behind its header, and prints the line of each call.
-pub fn run_lines<O: Outside + Drop>(
+/// Runs the rows of a script behind its header, and prints the lines of each call.
+pub fn run_rows<O: Outside + Drop>(
     alloc: Global,
-    geo: &Geometry,
+    script: &mut Script,
     source: &mut Source,
     world: &mut World<O>,
 ) -> Result<Ending, Halted>
-    requires clients { geo.now.clients ≡ 1 }
-    requires limit { source.old.used ≤ max_script }
+    requires one { IsOfOne script.old.geo }
     requires idle { has_work world.old.seen ≡ false }
     ensures idle { OnOk result (has_work world.new.seen ≡ false) }
-    ensures told { IsTrue O.tells → (start : Start) → IsRunning start source.old world.old.seen (tape (O.streams world.old.out) (O.meaning world.old.out)) → MatchResult result (λ _. IsRunning start source.new world.new.seen (tape (O.streams world.new.out) (O.meaning world.new.out))) (λ halted. IsBroken halted start world.new.seen (tape (O.streams world.new.out) (O.meaning world.new.out))) }
-    ensures ends { IfOk result (λ ending. EndsAt ending source.new) }
+    ensures told { IsTrue O.tells → (start : Start) → IsRunning start script.old source.old world.old.seen (tape (O.streams world.old.out) (O.meaning world.old.out)) → MatchResult result (λ ending. HasStopped ending start source.new world.new.seen (tape (O.streams world.new.out) (O.meaning world.new.out))) (λ halted. IsBroken halted start world.new.seen (tape (O.streams world.new.out) (O.meaning world.new.out))) }
     ensures cause { HasCause result (O.streams world.old.out) (O.streams world.new.out) }
 {
-    'lines: loop {
-        if let Some(ending) = run_line(alloc, geo, source, world)? {
+    'rows: loop {
+        if let Some(ending) = run_row(alloc, script, source, world)? {
             return Ok(ending);
         }
     }

@@ -1,20 +1,17 @@
-ghost use Rattle.std.specs.Prelude.{◌≡◌, ◌+◌, ◌-◌, ◌<◌, ◌≤◌, [], ◌++◌, ◌^◌, length, drop, take, OnOk, OnErr, true, false, IsTrue, IfOk, IfErr, IsErr, Ok, Err, position, ◌==◌, ◌||◌};
+ghost use Rattle.std.specs.Prelude.{◌≡◌, ◌≤◌, ◌++◌, length, drop, take, OnOk, OnErr, IfOk, IfErr, IsErr, Err, ◌==◌, ◌||◌};
 ghost use Rattle.zebra.specs.Pending.{none_pending, wants_more};
 
 use crate::ending::Halted;
 use std::alloc::Global;
 use std::marker::Model;
+use zb_script::{MAX_LINE, line_end};
 use zb_types::{Failed, Mem, NoMemory};
 
-/// How many bytes a line has at most, without its line end.
-const MAX_LINE: usize = 17_000;
-
-/// The bytes of the script that were taken and not yet used, and how many were used.
+/// The bytes of the script that were taken and not yet used.
 #[derive(Drop)]
 pub struct Source {
     bytes: Vec<u8>,
     start: usize,
-    used: usize,
     ended: bool,
 }
 
@@ -24,7 +21,7 @@ impl Model for Source {
 
     ghost Value = { Pending };
 
-    ghost view = { λ a. record { rest = drop a.start a.bytes.items; used = a.used; ended = a.ended } };
+    ghost view = { λ a. record { rest = drop a.start a.bytes.items; ended = a.ended } };
 
     ghost invariant = { λ a. a.start ≤ length a.bytes.items };
 }
@@ -36,7 +33,6 @@ impl Source {
         Source {
             bytes: Vec::new(alloc),
             start: 0,
-            used: 0,
             ended: false,
         }
     }
@@ -49,13 +45,6 @@ impl Source {
         rest
     }
 
-    /// How many bytes were used.
-    pub fn used(&self) -> usize
-        ensures { result ≡ self.now.used }
-    {
-        self.used
-    }
-
     /// Whether the line at hand has no end yet, and more bytes of it may come.
     pub fn wants_more(&self) -> bool
         ensures { result ≡ wants_more self.now }
@@ -65,12 +54,10 @@ impl Source {
 
     /// The first `len` bytes are used now.
     pub fn skip(&mut self, len: usize)
-        requires within { len ≤ length self.old.rest }
-        requires fits { self.old.used + len < 2 ^ 64 }
-        ensures { self.new ≡ record self.old { rest = drop len self.old.rest; used = self.old.used + len } }
+        requires { len ≤ length self.old.rest }
+        ensures { self.new ≡ record self.old { rest = drop len self.old.rest } }
     {
         self.start += len;
-        self.used += len;
     }
 
     // Adds bytes behind those that are there.
@@ -95,7 +82,6 @@ impl Source {
     ) -> Result<(), Halted>
         requires bound { IfOk taken (λ n. n ≤ length buf.now) }
         ensures ok { OnOk result (IfOk taken (λ n. self.new ≡ record self.old { rest = self.old.rest ++ take n buf.now; ended = self.old.ended || n == 0 })) }
-        ensures used { self.new.used ≡ self.old.used }
         ensures fault { IsErr taken → result ≡ Err Halted.ReadFault }
         ensures memory { OnOk taken (IfErr result (λ e. e ≡ Halted.Memory)) }
     {
@@ -106,11 +92,4 @@ impl Source {
         self.ended = self.ended || n == 0;
         Ok(())
     }
-}
-
-/// Where the first line ends.
-pub fn line_end(bytes: &[u8]) -> Option<usize>
-    ensures { result ≡ position (λ b. b == 10) bytes.now }
-{
-    bytes.iter().position(|b| *b == b'\n')
 }

@@ -9,7 +9,7 @@ type Row = (&'static str, &'static [u8], &'static [u8], u8);
 const HELLO: &[u8] =
     b"zebra 1 servers 3 clients 1 fragment 256 block 64 slots 32\nc1 create /a\nc1 write 1 0 \"hello\"\nc1 sync\nc1 read 1 0 5\n";
 
-const ROWS: [Row; 8] = [
+const ROWS: [Row; 16] = [
     (
         "run",
         HELLO,
@@ -36,10 +36,53 @@ const ROWS: [Row; 8] = [
     ),
     (
         "run",
-        b"zebra 1 servers 3 clients 1 fragment 256 block 64 slots 32\nc1 create /a/b\n",
+        b"zebra 1 servers 3 clients 1 fragment 256 block 64 slots 32\nc1 create a/b\n",
         b"script 2\n",
         2,
     ),
+    (
+        "run",
+        b"zebra 1 servers 3 clients 1 fragment 256 block 64 slots 32\nc1 mkdir /d\nc1 create /d/f\nc1 rename /d /d/x\nc1 rename /d /e\nc1 list /\nc1 list /e\nc1 remove /e\nc1 open /d/f\nc1 stat /e/f\nc1 stat /e/f/g\nc1 open /e\n",
+        b"c1 1 done\nc1 2 fid 1\nc1 3 inside\nc1 4 done\nc1 5 names e\nc1 6 names f\nc1 7 not empty\nc1 8 no entry\nc1 9 file 1 0\nc1 10 not a directory\nc1 11 is a directory\ndir /e\nfile /e/f 1 0\nend 0\n",
+        0,
+    ),
+    (
+        "run",
+        b"zebra 1 servers 3 clients 1 fragment 256 block 64 slots 32\nc1 create /a\nc1 write 1 0 \"hello world\"\nc1 truncate 1 5\nc1 truncate 1 7\nc1 sync\nc1 read 1 0 20\n",
+        b"c1 1 fid 1\nc1 2 kept buffered\nc1 3 kept buffered\nc1 4 kept buffered\nc1 2 done\nc1 3 done\nc1 4 done\nc1 5 done\nc1 6 bytes \"hello\\x00\\x00\"\nfile /a 1 7\nend 0\n",
+        0,
+    ),
+    (
+        "run",
+        b"zebra 1 servers 3 clients 1 fragment 256 block 64 slots 32\nc1 create /a\nc1 create /a\nc1 list /a\nc1 stat /b/c\n",
+        b"c1 1 fid 1\nc1 2 exists\nc1 3 not a directory\nc1 4 no entry\nfile /a 1 0\nend 0\n",
+        0,
+    ),
+    (
+        "run",
+        b"zebra 1 servers 3 clients 1 fragment 256 block 64 slots 32\nc1 write 9 0 \"x\"\nc1 sync\n",
+        b"c1 1 kept buffered\nc1 1 gone\nc1 2 done\nend 0\n",
+        0,
+    ),
+    (
+        "run",
+        b"zebra 1 servers 3 clients 1 fragment 256 block 64 slots 32\nc1 create /a\nclean\n",
+        b"c1 1 fid 1\nlater 3\n",
+        10,
+    ),
+    (
+        "run",
+        b"# first\n\nzebra 1 servers 16 clients 1 fragment 512 block 64 slots 8\n\n# then\nc1 list /\n# last\nc1 lost /\n",
+        b"c1 1 names\nscript 8\n",
+        2,
+    ),
+    (
+        "run",
+        b"# first\nzebra 1 servers 3 clients 2 fragment 256 block 64 slots 32\n",
+        b"later 2\n",
+        10,
+    ),
+    ("run", b"# first\n", b"script 2\n", 2),
     ("run", b"zebra 1\n", b"script 1\n", 2),
     ("run", b"", b"script 1\n", 2),
     ("walk", HELLO, b"usage\n", 5),

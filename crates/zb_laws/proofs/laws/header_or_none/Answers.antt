@@ -1,5 +1,5 @@
 use Rattle.zb_laws.proofs.laws.header_or_none.Goals as goal
-use Rattle.zb_laws.proofs.ReadOnce.{whole_header, first_header}
+use Rattle.zb_laws.proofs.ReadOnce.{whole_header}
 
 pub returns : goal.returns
-returns c = record { whole = whole_header; first = first_header }
+returns c = whole_header

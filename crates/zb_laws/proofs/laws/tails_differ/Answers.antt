@@ -1,5 +1,6 @@
+use Rattle.std.proofs.Common.{refl}
 use Rattle.zb_laws.proofs.laws.tails_differ.Goals as goal
-use Rattle.zb_laws.proofs.RunOnce.{whole_tails, first_tails}
+use Rattle.zb_laws.proofs.RunOnce.{whole_tails, lines_alone}
 
 pub returns : goal.returns
-returns c = record { whole = whole_tails; first = first_tails }
+returns c = record { behind_lines = whole_tails; alone = lines_alone; usage = refl }

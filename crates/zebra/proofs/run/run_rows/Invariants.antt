@@ -1,0 +1,19 @@
+use Rattle.std.proofs.Common.{◌≡◌, ◌≤◌, ◌-◌, false}
+use Rattle.std.specs.Prelude.{IsTrue}
+use Rattle.zb_claims.specs.Text.{max_script}
+use Rattle.zb_world.specs.Seen.{has_work}
+use Rattle.zebra.specs.Moves.{tape}
+use Rattle.zebra.specs.Rows.{IsOfOne}
+use Rattle.zebra.specs.Running.{Start, IsRunning}
+use Rattle.zebra.proofs.run.run_rows.Given as goal
+
+abbrev pub invariant-rows : goal.invariant-rows
+invariant-rows g l =
+    IsOfOne l.script.geo
+    × (has_work l.world.seen ≡ false)
+    × (IsTrue g.O.Bay.tells → (start : Start) → IsRunning start l.fn.script l.fn.source l.fn.world.seen (tape (g.O.Bay.streams l.fn.world.out) (g.O.Bay.meaning l.fn.world.out)) → IsRunning start l.script l.source l.world.seen (tape (g.O.Bay.streams l.world.out) (g.O.Bay.meaning l.world.out)))
+    × ((g.O.Bay.streams l.fn.world.out).read_faults ≤ (g.O.Bay.streams l.world.out).read_faults)
+    × ((g.O.Bay.streams l.fn.world.out).write_faults ≤ (g.O.Bay.streams l.world.out).write_faults)
+
+abbrev pub decreases-rows : goal.decreases-rows
+decreases-rows g l = max_script - l.script.used

@@ -12,5 +12,6 @@ mod wipe;
 
 pub use change::{append_at, free_at, store_at, store_parity_at};
 pub use find::find_fence;
+pub use place::place_of;
 pub use replace::{ParitySlot, replace_parity_at};
 pub use super_cell::{fence_at, format_at};

@@ -3,7 +3,7 @@ ghost use Rattle.zb_slots.specs.Slots.{slot_place};
 
 use zb_types::Geometry;
 
-// Where a slot stands.
+/// Where a slot stands on the platter, in bytes; and where the last slot ends, for the number of slots.
 pub fn place_of(geo: &Geometry, slot: u32) -> u64
     requires { slot ≤ geo.now.slots }
     ensures place { result ≡ slot_place geo.now.fragment slot }

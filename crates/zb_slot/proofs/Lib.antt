@@ -1,3 +1,4 @@
 pub mod Fills
 pub mod Numbers
+pub mod Saying
 pub mod Shares

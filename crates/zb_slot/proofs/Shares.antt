@@ -9,16 +9,17 @@ use Rattle.zb_cell.specs.Cell.{window, bytes_at, value}
 use Rattle.zb_cell.specs.Set.{SetTold}
 use Rattle.zb_cell.proofs.Values.{window_is}
 use Rattle.zb_types.specs.declared.ids.FragId.{FragId}
+use Rattle.zb_stripes.specs.Fragments.{share_fragment}
 use Rattle.zb_slots.specs.declared.header.Header.{Header}
 use Rattle.zb_slots.specs.declared.header.Header.TheVariants.{Free, Share, Parity}
 use Rattle.zb_slots.specs.Headers.{header_text}
-use Rattle.zb_slots.specs.Slots.{Slot, bad_slot, free_slot, full_slot, four_at, numbers_at, shown, header_in, slot_of}
+use Rattle.zb_slots.specs.Slots.{Slot, Stored, bad_slot, free_slot, full_slot, four_at, numbers_at, shown, header_in, slot_of}
 use Rattle.zb_slot.specs.Area.{lengths_in}
 use Rattle.zb_slot.specs.Changing.{share_slot, parity_slot, SlotTold}
 use Rattle.zb_slot.specs.Filling.{body_of, Filled, FillTold}
 use Rattle.zb_slot.proofs.Fills.{length-window, same_slot}
 
-window_at : (f : ℕ → ℕ) (at n i : ℕ) → i < n → slice_index (window f at n) i ≡ f (at + i)
+pub window_at : (f : ℕ → ℕ) (at n i : ℕ) → i < n → slice_index (window f at n) i ≡ f (at + i)
 unfolding window
 window_at f at zero i lt = absurd (omega arith)
 window_at f at (suc n) zero lt = ap f (omega arith)
@@ -33,19 +34,23 @@ body_in (full_slot stored) = body_of stored.fragment
 none : (i : ℕ) → i < length {A = ℕ} [] → ⊥
 none i lt = omega arith
 
-body_at : (n : ℕ) (byte : ℕ → ℕ) (h : Option Header) (i : ℕ) → i < length (body_in (shown n byte h)) → byte (192 + i) ≡ slice_index (body_in (shown n byte h)) i
+pub body_at : (n : ℕ) (byte : ℕ → ℕ) (h : Option Header) (i : ℕ) → i < length (body_in (shown n byte h)) → byte (192 + i) ≡ slice_index (body_in (shown n byte h)) i
 body_at n byte None i lt = absurd (none i lt)
 body_at n byte (Some Free) i lt = absurd (none i lt)
 body_at n byte (Some (Share id len)) i lt = sym (window_at byte 192 len i (omega (arith, length-window byte 192 len, lt)))
 body_at n byte (Some (Parity id turn len)) i lt = sym (window_at byte 192 len i (omega (arith, length-window byte 192 len, lt)))
 
--- the bytes of a share stand behind its header
-pub stands_at : (n f place : ℕ) (s : List ℕ) (id : FragId) (stands : List ℕ) → slot_of n f s place ≡ share_slot id stands → (i : ℕ) → i < length stands → bytes_at s place (192 + i) ≡ slice_index stands i
-stands_at n f place s id stands is i lt =
-    let same : body_in (slot_of n f s place) ≡ stands = ap body_in is in
+-- the body of a fragment stands behind its header
+pub body_stands : (n f place : ℕ) (s : List ℕ) (stored : Stored) → slot_of n f s place ≡ full_slot stored → (i : ℕ) → i < length (body_of stored.fragment) → bytes_at s place (192 + i) ≡ slice_index (body_of stored.fragment) i
+body_stands n f place s stored is i lt =
+    let same : body_in (slot_of n f s place) ≡ body_of stored.fragment = ap body_in is in
     body_at n (bytes_at s place) (header_in n f (value s place)) i (omega (arith, ap (λ (l : List ℕ). length l) same, lt)) ∙ ap (λ (l : List ℕ). slice_index l i) same
 
-numbers_moved : (f g : ℕ → ℕ) (a b m : ℕ) → ((i : ℕ) → i < 4 * m → f (a + i) ≡ g (b + i)) → numbers_at f a m ≡ numbers_at g b m
+-- the bytes of a share stand behind its header
+pub stands_at : (n f place : ℕ) (s : List ℕ) (id : FragId) (stands : List ℕ) → slot_of n f s place ≡ share_slot id stands → (i : ℕ) → i < length stands → bytes_at s place (192 + i) ≡ slice_index stands i
+stands_at n f place s id stands is i lt = body_stands n f place s (record { id = id; turn = 0; fragment = share_fragment stands }) is i lt
+
+pub numbers_moved : (f g : ℕ → ℕ) (a b m : ℕ) → ((i : ℕ) → i < 4 * m → f (a + i) ≡ g (b + i)) → numbers_at f a m ≡ numbers_at g b m
 numbers_moved f g a b zero same = refl
 numbers_moved f g a b (suc m) same =
     let here : (i : ℕ) → i < 4 → f (a + i) ≡ g (b + i) = λ i lt. same i (omega arith) in

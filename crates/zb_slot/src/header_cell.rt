@@ -1,17 +1,19 @@
-ghost use Rattle.std.specs.Prelude.{◌≡◌, ◌≢◌, ◌≤◌, ◌+◌, ◌^◌, ℕ, length, IsTrue, IfOk};
+ghost use Rattle.std.specs.Prelude.{◌≡◌, ◌≢◌, ◌≤◌, ◌+◌, ◌^◌, ℕ, length, IsTrue, IfOk, Some};
 ghost use Rattle.zb_outside.specs.Counts.{HasCause};
 ghost use Rattle.zb_outside.specs.Runs.{IsSettled, Held};
 ghost use Rattle.zb_cell.specs.Cell.{value};
 ghost use Rattle.zb_cell.specs.Set.{SetTold};
-ghost use Rattle.zb_slots.specs.Headers.{header_text, HasRoom};
+ghost use Rattle.zb_slots.specs.Headers.{header_text, HasRoom, MayStand};
 ghost use Rattle.zb_slots.specs.Slots.{header_in};
+ghost use Rattle.zb_slots.specs.declared.header.Header.{Header};
 
 use zb_cell::{CellFault, get, set};
 use zb_outside::Bay;
 use zb_slots::{Header, read_header, spell_header};
 use zb_types::{Failed, Geometry};
 
-/// What the header of the slot at this place says: None is a bad header.
+/// What the header of the slot at this place says: None is a bad header. What is said may stand, whatever the platter
+/// holds.
 ///
 /// `Failed` comes only where a call of the platter failed.
 pub fn header<B: Bay>(
@@ -24,6 +26,7 @@ pub fn header<B: Bay>(
     requires range { place + 128 ≤ 2 ^ 63 }
     ensures told { IsTrue B.tells → Held platter (B.meaning bay.old) (B.meaning bay.new) }
     ensures says { IsTrue B.tells → IfOk result (λ says. says ≡ header_in geo.now.servers geo.now.fragment (value ((B.meaning bay.old).now.seen platter) place)) }
+    ensures stands { IfOk result (λ says. (header : Header) → says ≡ Some header → MayStand geo.now.servers geo.now.fragment header) }
     ensures cause { HasCause platter result (B.faults bay.old) (B.faults bay.new) }
     ensures writes { (q : ℕ) → B.writes bay.new q ≡ B.writes bay.old q }
     ensures streams { B.streams bay.new ≡ B.streams bay.old }

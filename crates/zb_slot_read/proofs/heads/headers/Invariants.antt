@@ -1,0 +1,20 @@
+use Rattle.std.proofs.Common.{◌≡◌, ◌≢◌, ◌≤◌, ℕ, length, Option, Some}
+use Rattle.std.specs.Bool.{IsTrue}
+use Rattle.std.specs.Prelude.{slice_get}
+use Rattle.zb_slots.specs.declared.header.Header.{Header}
+use Rattle.zb_slot_read.specs.Reading.{LeftAlone}
+use Rattle.zb_slot_read.specs.Showing.{header_of, AllMayStand}
+use Rattle.zb_slot_read.proofs.heads.headers.Given as goal
+
+abbrev pub invariant-loop-slot : goal.invariant-loop-slot
+invariant-loop-slot g l = record {
+  told : IsTrue g.B.Bay.tells → LeftAlone l.platter (g.B.Bay.meaning l.fn.bay) (g.B.Bay.meaning l.bay);
+  count : length l.headers.items ≡ l.slot;
+  shown : IsTrue g.B.Bay.tells → (j : ℕ) (header : Option Header) → slice_get l.headers.items j ≡ Some header → header ≡ header_of l.geo ((g.B.Bay.meaning l.fn.bay).now.seen l.platter) j;
+  stand : AllMayStand l.geo.servers l.geo.fragment l.headers.items;
+  later : g.B.Bay.faults l.fn.bay l.platter ≤ g.B.Bay.faults l.bay l.platter;
+  others : (q : ℕ) → q ≢ l.platter → g.B.Bay.faults l.bay q ≡ g.B.Bay.faults l.fn.bay q;
+  writes : (q : ℕ) → g.B.Bay.writes l.bay q ≡ g.B.Bay.writes l.fn.bay q;
+  streams : g.B.Bay.streams l.bay ≡ g.B.Bay.streams l.fn.bay;
+  follows : g.B.Bay.follows l.fn.bay l.bay;
+}

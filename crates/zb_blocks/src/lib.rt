@@ -1,0 +1,11 @@
+//! Blocks of one log, in stripes with rotating parity over plain servers.
+#![tactic(auto)]
+
+mod flushing;
+mod laws;
+mod stored;
+#[cfg(test)]
+mod tests;
+
+pub use laws::blocks_stay;
+pub use stored::Blocks;

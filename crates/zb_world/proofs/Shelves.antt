@@ -11,6 +11,8 @@ use Rattle.zb_types.specs.Names.{Names}
 use Rattle.zb_types.specs.Tree.{files_after, listed, listing}
 use Rattle.zb_names.specs.declared.entries.Entry.{Entry}
 use Rattle.zb_names.specs.Shown.{seen, change_of, listed as entries_of}
+use Rattle.zb_blocks.specs.Blocks.{StripesHold}
+use Rattle.zb_world.specs.Files.{SeenFiles}
 use Rattle.zb_world.specs.Kept.{IsShelf}
 
 abbrev AreBelow : ℕ → List (ℕ × List ℕ) → Type 0
@@ -53,22 +55,22 @@ below_without next k (e ∷ es) all =
     ]
 
 -- one more file
-pub IsShelf-put : (next : ℕ) (bytes : List ℕ) (files : List (ℕ × List ℕ)) → IsShelf next files → IsShelf (next + 1) (put next bytes files)
-IsShelf-put next bytes files shelf = record { given = below_put next bytes files shelf.given }
+pub IsShelf-put : (next : ℕ) (bytes : List ℕ) (files : SeenFiles) → IsShelf next files → IsShelf (next + 1) (record files { files = put next bytes files.files })
+IsShelf-put next bytes files shelf = record { given = below_put next bytes files.files shelf.given; stripes_hold = shelf.stripes_hold }
 
 -- what was added under the next number is taken back
-pub without-put : (next : ℕ) (bytes : List ℕ) (files : List (ℕ × List ℕ)) → IsShelf next files → without next (put next bytes files) ≡ files
-without-put next bytes files shelf = without_put next bytes files shelf.given
+pub without-put : (next : ℕ) (bytes : List ℕ) (files : SeenFiles) → IsShelf next files → without next (put next bytes files.files) ≡ files.files
+without-put next bytes files shelf = without_put next bytes files.files shelf.given
 
 -- the file of an entry, where that was one, is gone
-pub IsShelf-dropped : (next : ℕ) (fid : Option Fid) (files : List (ℕ × List ℕ)) → IsShelf next files → IsShelf next (files_after [] (change_of fid) files)
-IsShelf-dropped next None files shelf = shelf
-IsShelf-dropped next (Some fid) files shelf = record { given = below_without next fid.0 files shelf.given }
+pub IsShelf-dropped : (next : ℕ) (fid : Option Fid) (files : SeenFiles) → IsShelf next files → IsShelf next (record files { files = files_after [] (change_of fid) files.files })
+IsShelf-dropped next None files shelf = record { given = shelf.given; stripes_hold = shelf.stripes_hold }
+IsShelf-dropped next (Some fid) files shelf = record { given = below_without next fid.0 files.files shelf.given; stripes_hold = shelf.stripes_hold }
 
 -- a file has other bytes, or none changed
-pub IsShelf-replaced : {A E : Type 0} (next k : ℕ) (bytes : List ℕ) (r : Result A E) (old new : List (ℕ × List ℕ)) → OnOk r (new ≡ replaced k bytes old) → OnErr r (new ≡ old) → IsShelf next old → IsShelf next new
-IsShelf-replaced next k bytes (Ok a) old new ok err shelf = subst (IsShelf next) (sym ok) (record { given = below_replaced next k bytes old shelf.given })
-IsShelf-replaced next k bytes (Err e) old new ok err shelf = subst (IsShelf next) (sym err) shelf
+pub IsShelf-replaced : {A E : Type 0} (next k : ℕ) (bytes : List ℕ) (r : Result A E) (old new : SeenFiles) → OnOk r (new.files ≡ replaced k bytes old.files) → OnErr r (new.files ≡ old.files) → StripesHold new.blocks → IsShelf next old → IsShelf next new
+IsShelf-replaced next k bytes (Ok a) old new ok err holds shelf = record { given = subst (AreBelow next) (sym ok) (below_replaced next k bytes old.files shelf.given); stripes_hold = holds }
+IsShelf-replaced next k bytes (Err e) old new ok err holds shelf = record { given = subst (AreBelow next) (sym err) shelf.given; stripes_hold = holds }
 
 -- what a listing shows of these entries
 abbrev pub shown_entries : List (ℕ × List ℕ) → List (List ℕ × Entry) → List TreeEntry

@@ -24,6 +24,7 @@ use Rattle.zb_claims.specs.Points.{has_line, has_final, call_in, call_of, did_if
 use Rattle.zb_claims.specs.Fits.{FitsNext, FitLines, WasFull, is_next}
 use Rattle.zb_claims.specs.Text.{IsOutcome, IsReply}
 use Rattle.zb_laws.specs.Histories.{answer_of, read_if, reads}
+use Rattle.zb_blocks.specs.Blocks.{SeenBlocks, StripesHold}
 use Rattle.zb_world.specs.Seen.{Seen, script_of, is_up_to, numbers_from, did_by, saw_by}
 use Rattle.zb_world.specs.Sound.{IsSound, HistoryFits, CallsInOrder, IsPlain, open_numbers}
 use Rattle.zb_world.proofs.Appending.{All-push, FitsFrom-push, has_line-push, has_final-buffered, has_final-replied, open_numbers-buffered, open_numbers-replied, dids-push, reads-push, tree_from-append, AreReplies-append}
@@ -96,7 +97,7 @@ later_full lines line n was = record {
 own_client : (geo : Geometry) → IsTrue (within 1 geo.clients 1)
 own_client geo = let low : 1 ≤ geo.clients = geo.limits.clients_low in grind (arith, nat_tests)
 
-shown_at : (s : Seen) (tree : Tree) → IsSound s tree → tree ≡ tree_at (script_of s.calls) s.lines
+shown_at : {blocks : SeenBlocks} (s : Seen) (tree : Tree) → IsSound s tree blocks → tree ≡ tree_at (script_of s.calls) s.lines
 shown_at s tree sound = sound.shows_history ∙ ap tree_after sound.history_fits.told
 
 -- One call more.
@@ -109,7 +110,7 @@ get_below [] call k lt = absurd (omega arith)
 get_below (c ∷ cs) call zero lt = refl
 get_below (c ∷ cs) call (suc k) lt = get_below cs call k (omega (arith, lt))
 
-pub IsSound-call : (s : Seen) (tree : Tree) (call : Call) → IsSound s tree → length s.calls + 1 < 2 ^ 63 → IsSound (with_call s call) tree
+pub IsSound-call : {blocks : SeenBlocks} (s : Seen) (tree : Tree) (call : Call) → IsSound s tree blocks → length s.calls + 1 < 2 ^ 63 → IsSound (with_call s call) tree blocks
 IsSound-call s tree call sound few =
     let h = sound.history_fits in
     let o = sound.calls_in_order in
@@ -135,6 +136,7 @@ IsSound-call s tree call sound few =
         full = λ other at_work is. o.full other at_work (sym (get_below s.calls call s.lined (omega (arith, at_work, o.due_given, o.due_next))) ∙ is);
       };
       shows_history = sound.shows_history;
+      stripes_hold = sound.stripes_hold;
     }
 
 -- The next call is kept.
@@ -142,7 +144,7 @@ IsSound-call s tree call sound few =
 abbrev pub with_kept : Seen → Seen
 with_kept s = record s { lines = s.lines ++ OfCall 1 (suc s.lined) Buffered ∷ []; lined = suc s.lined }
 
-kept_fits : (s : Seen) (tree : Tree) (call : Call) → IsSound s tree → slice_get s.calls s.lined ≡ Some call → is_bufferable call ≡ true → s.lined - s.done + 1 < 8 → FitsNext true (script_of s.calls) s.lines (OfCall 1 (suc s.lined) Buffered)
+kept_fits : {blocks : SeenBlocks} (s : Seen) (tree : Tree) (call : Call) → IsSound s tree blocks → slice_get s.calls s.lined ≡ Some call → is_bufferable call ≡ true → s.lined - s.done + 1 < 8 → FitsNext true (script_of s.calls) s.lines (OfCall 1 (suc s.lined) Buffered)
 kept_fits s tree call sound is may few =
     let o = sound.calls_in_order in
     let many : length (open_numbers s.lines) ≡ s.lined - s.done = ap length o.kept ∙ length-numbers_from (suc s.done) (s.lined - s.done) in
@@ -161,7 +163,7 @@ kept_fits s tree call sound is may few =
       };
     }
 
-pub IsSound-kept : (s : Seen) (tree : Tree) (call : Call) → IsSound s tree → slice_get s.calls s.lined ≡ Some call → is_bufferable call ≡ true → s.due ≤ s.done → s.lined - s.done + 1 < 8 → IsSound (with_kept s) tree
+pub IsSound-kept : {blocks : SeenBlocks} (s : Seen) (tree : Tree) (call : Call) → IsSound s tree blocks → slice_get s.calls s.lined ≡ Some call → is_bufferable call ≡ true → s.due ≤ s.done → s.lined - s.done + 1 < 8 → IsSound (with_kept s) tree blocks
 IsSound-kept s tree call sound is may idle few =
     let h = sound.history_fits in
     let o = sound.calls_in_order in
@@ -192,6 +194,7 @@ IsSound-kept s tree call sound is may idle few =
         full = λ other at_work next. absurd (omega (arith, at_work, idle, o.done_first));
       };
       shows_history = sound.shows_history;
+      stripes_hold = sound.stripes_hold;
     }
 
 -- The first call that has no final line has its reply.
@@ -218,7 +221,7 @@ with_reply s call reply due = record {
   reads = s.reads ++ saw_by (suc s.done) (length s.updates) call reply;
 }
 
-reply_fits : (s : Seen) (tree : Tree) (call : Call) (reply : Reply) (due : ℕ) → IsSound s tree → Answers s tree call reply due → FitsNext true (script_of s.calls) s.lines (OfCall 1 (suc s.done) (Replied reply))
+reply_fits : {blocks : SeenBlocks} (s : Seen) (tree : Tree) (call : Call) (reply : Reply) (due : ℕ) → IsSound s tree blocks → Answers s tree call reply due → FitsNext true (script_of s.calls) s.lines (OfCall 1 (suc s.done) (Replied reply))
 reply_fits s tree call reply due sound a =
     let o = sound.calls_in_order in
     let told : reply ≡ reply_to (tree_at (script_of s.calls) s.lines) call = a.same ∙ ap (λ (t : Tree). reply_to t call) (shown_at s tree sound) in
@@ -310,7 +313,7 @@ saw_is_seen dids tree n call reply shows same =
       )
     ]
 
-legal_more : (s : Seen) (tree : Tree) (call : Call) (reply : Reply) → IsSound s tree → reply ≡ reply_to tree call → IsLegal (s.updates ++ did_by (suc s.done) call reply) (s.reads ++ saw_by (suc s.done) (length s.updates) call reply)
+legal_more : {blocks : SeenBlocks} (s : Seen) (tree : Tree) (call : Call) (reply : Reply) → IsSound s tree blocks → reply ≡ reply_to tree call → IsLegal (s.updates ++ did_by (suc s.done) call reply) (s.reads ++ saw_by (suc s.done) (length s.updates) call reply)
 legal_more s tree call reply sound same =
     let legal = sound.history_fits.legal in
     let here : reply ≡ reply_to (tree_after s.updates) call = same ∙ ap (λ (t : Tree). reply_to t call) sound.shows_history in
@@ -373,8 +376,8 @@ reply_order s tree call reply due o a =
         by_count zero is = let none : max lined (suc done) - suc done ≡ 0 = omega (arith, is, le) in ap (numbers_from (suc (suc done))) (sym none)
         by_count (suc k) is = let some : max lined (suc done) - suc done ≡ k = omega (arith, is, le) in filter_first (suc done) k ∙ ap (numbers_from (suc (suc done))) (sym some)
 
-pub IsSound-reply : (s : Seen) (tree next : Tree) (call : Call) (reply : Reply) (due : ℕ) → IsSound s tree → Answers s tree call reply due → next ≡ applied tree call → IsSound (with_reply s call reply due) next
-IsSound-reply s tree next call reply due sound a becomes =
+pub IsSound-reply : {blocks now : SeenBlocks} (s : Seen) (tree next : Tree) (call : Call) (reply : Reply) (due : ℕ) → IsSound s tree blocks → Answers s tree call reply due → next ≡ applied tree call → StripesHold now → IsSound (with_reply s call reply due) next now
+IsSound-reply s tree next call reply due sound a becomes holds =
     let h = sound.history_fits in
     let o = sound.calls_in_order in
     record {
@@ -388,4 +391,5 @@ IsSound-reply s tree next call reply due sound a becomes =
       };
       calls_in_order = reply_order s tree call reply due o a;
       shows_history = becomes ∙ ap (λ (t : Tree). applied t call) sound.shows_history ∙ sym (tree_from-append first_tree s.updates (did_by (suc s.done) call reply) ∙ did_after (tree_after s.updates) (suc s.done) call reply);
+      stripes_hold = holds;
     }

@@ -1,6 +1,5 @@
 pub mod Seen
 pub mod Sound
 pub mod World
-pub mod Blocks
 pub mod Files
 pub mod Kept

@@ -14,6 +14,8 @@ use Rattle.zb_claims.specs.Points.{has_line, has_final, kept_in, dids}
 use Rattle.zb_claims.specs.Fits.{FitLines, WasFull}
 use Rattle.zb_claims.specs.Text.{IsOutcome, report_text}
 use Rattle.zb_laws.specs.Histories.{answer_of, reads}
+use Rattle.zb_blocks.specs.Blocks.{SeenBlocks, StripesHold}
+use Rattle.zb_world.specs.Kept.{SeenShelf}
 use Rattle.zb_world.specs.Seen.{Seen, waiting, script_of, is_up_to, numbers_from}
 
 -- the calls that have a `kept` line and no final line
@@ -51,11 +53,12 @@ pub record CallsInOrder (s : Seen) : Type 0 where
   pub due_given : s.due ≤ length s.calls
   pub full : NextWasFull s s.due
 
--- the lines, the calls and the tree that the nodes show agree with one history
-pub record IsSound (s : Seen) (tree : Tree) : Type 0 where
+-- the lines, the calls and the tree that the nodes show agree with one history, and each stripe holds its bytes
+pub record IsSound (s : Seen) (tree : Tree) (blocks : SeenBlocks) : Type 0 where
   pub history_fits : HistoryFits s
   pub calls_in_order : CallsInOrder s
   pub shows_history : tree ≡ tree_after s.updates
+  pub stripes_hold : StripesHold blocks
 
 -- a call within the limits of one write and one read
 abbrev pub IsWithin : Call → Type 0
@@ -64,8 +67,8 @@ IsWithin (Read fid offset len) = (1 ≤ len) × (len ≤ 4096)
 IsWithin call = Unit {0}
 
 -- a sound world, and the text of the lines that wait
-pub record IsKept (s : Seen) (tree : Tree) (text : List ℕ) : Type 0 where
-  pub sound : IsSound s tree
+pub record IsKept (s : Seen) (shelf : SeenShelf) (text : List ℕ) : Type 0 where
+  pub sound : IsSound s shelf.tree shelf.blocks
   pub within : AllByRecursion IsWithin s.calls
   pub told_first : s.told ≤ length s.lines
   pub text_waits : text ≡ report_text (waiting s)

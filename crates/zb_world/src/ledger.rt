@@ -12,7 +12,7 @@ use std::alloc::Global;
 use std::marker::Model;
 use zb_history::History;
 use zb_report::outcome;
-use zb_types::{ByteList, Call, Did, Mem, NoMemory, Outcome, Reply, Said, Saw, TreeList};
+use zb_types::{ByteList, Call, Did, Geometry, Mem, NoMemory, Outcome, Reply, Said, Saw, TreeList};
 
 /// How many calls a client may keep.
 const MOST_KEPT: usize = 7;
@@ -55,9 +55,10 @@ struct Answer {
     reply: Reply,
 }
 
-fn answer_to(alloc: Global, shelf: &Shelf, call: &Call, number: u64) -> Mem<Answer>
+fn answer_to(alloc: Global, shelf: &mut Shelf, call: &Call, number: u64) -> Mem<Answer>
     requires { IsWithin call.now }
-    ensures reply { IfOk result (λ a. a.reply ≡ reply_to shelf.now call.now) }
+    ensures same { shelf.new ≡ shelf.old }
+    ensures reply { IfOk result (λ a. a.reply ≡ reply_to shelf.old.tree call.now) }
     ensures valid { IfOk result (λ a. IsReply a.reply) }
     ensures call { IfOk result (λ a. a.call ≡ call.now) }
     ensures line { IfOk result (λ a. a.line ≡ Outcome.Call CLIENT number (Said.Reply a.reply)) }
@@ -143,14 +144,12 @@ fn add_entry(history: &mut History, number: u64, call: Call, reply: Reply)
 }
 
 impl Ledger {
-    /// Nothing given yet. Blocks of files have `block` bytes, 64 to 4,096.
-    pub fn new(alloc: Global, block: u32) -> Mem<Ledger>
-        requires low { 64 ≤ block }
-        requires high { block ≤ 4096 }
+    /// Nothing given yet. The blocks of files are striped over the servers.
+    pub fn new(alloc: Global, geo: &Geometry) -> Mem<Ledger>
         ensures { IfOk result (λ seen. seen ≡ first_seen) }
     {
         Ok(Ledger {
-            shelf: Shelf::new(alloc, block)?,
+            shelf: Shelf::new(alloc, geo)?,
             calls: Vec::new(alloc),
             lines: Vec::new(alloc),
             text: Vec::new(alloc),
@@ -215,7 +214,7 @@ impl Ledger {
     {
         let number = self.done as u64 + 1;
         let call = &self.calls[self.done];
-        let answer = answer_to(alloc, &self.shelf, call, number)?;
+        let answer = answer_to(alloc, &mut self.shelf, call, number)?;
         reserve_line(&mut self.lines, &mut self.text, answer.text.len())?;
         reserve_entry(&mut self.history)?;
         self.shelf.apply(alloc, call)?;

@@ -2,7 +2,6 @@
 #![tactic(auto)]
 
 mod answers;
-mod blocks;
 mod files;
 mod ledger;
 mod shelf;

@@ -5,18 +5,22 @@ ghost use Rattle.zb_types.specs.Names.{first, when, name_refusal};
 ghost use Rattle.zb_types.specs.Tree.{first_tree, stored, listed, listing, files_after};
 ghost use Rattle.zb_types.specs.Apply.{max_file, is_gone, is_update, refusal_of, effect, applied, reply_to};
 ghost use Rattle.zb_names.specs.Shown.{seen, change_of};
+ghost use Rattle.zb_blocks.specs.Blocks.{StripesHold};
 ghost use Rattle.zb_world.specs.Sound.{IsWithin};
 
 use crate::files::Files;
 use std::alloc::Global;
 use std::marker::Model;
 use zb_names::{Entry, NameFault, Names};
-use zb_types::{Call, Fid, Listed, Mem, NoMemory, Path, Refusal, Reply, TreeEntry, TreeList};
+use zb_types::{
+    Call, Fid, Geometry, Listed, Mem, NoMemory, Path, Refusal, Reply, TreeEntry, TreeList,
+};
 
 // The most bytes of a file.
 const MAX_FILE: u64 = 67_108_864;
 
-/// The file tree: names, and the files that these number. Contracts see it as the plain tree.
+/// The file tree: names, and the files that these number. Contracts see it as the plain tree, with the blocks of
+/// its files.
 #[derive(Drop)]
 pub struct Shelf {
     names: Names,
@@ -24,19 +28,21 @@ pub struct Shelf {
 }
 
 impl Model for Shelf {
-    ghost use Rattle.zb_types.specs.Tree.{Tree};
-    ghost use Rattle.zb_world.specs.Kept.{IsShelf};
+    ghost use Rattle.zb_world.specs.Kept.{SeenShelf, IsShelf};
 
-    ghost Value = { Tree };
+    ghost Value = { SeenShelf };
 
-    ghost view = { λ a. record { names = a.names; files = a.files } };
+    ghost view = { λ a. record {
+      tree = record { names = a.names; files = a.files.files };
+      blocks = a.files.blocks;
+    } };
 
     ghost invariant = { λ a. IsShelf a.names.next a.files };
 }
 
 // What becomes of the files where the entry of this one was removed, if it was a file.
 fn drop_file(files: &mut Files, fid: Option<Fid>)
-    ensures { files.new ≡ files_after [] (change_of fid) files.old }
+    ensures { files.new ≡ record files.old { files = files_after [] (change_of fid) files.old.files } }
 {
     if let Some(fid) = fid {
         files.remove(fid);
@@ -44,35 +50,34 @@ fn drop_file(files: &mut Files, fid: Option<Fid>)
 }
 
 impl Shelf {
-    /// The tree with no names. Blocks of files have `block` bytes, 64 to 4,096.
-    pub fn new(alloc: Global, block: u32) -> Mem<Shelf>
-        requires low { 64 ≤ block }
-        requires high { block ≤ 4096 }
-        ensures { IfOk result (λ tree. tree ≡ first_tree) }
+    /// The tree with no names. The blocks of its files are striped over the servers.
+    pub fn new(alloc: Global, geo: &Geometry) -> Mem<Shelf>
+        ensures tree { IfOk result (λ shelf. shelf.tree ≡ first_tree) }
+        ensures stripes { IfOk result (λ shelf. StripesHold shelf.blocks) }
     {
         Ok(Shelf {
             names: Names::new(alloc)?,
-            files: Files::new(alloc, block)?,
+            files: Files::new(alloc, geo)?,
         })
     }
 
     // Whether there is no file with this number.
     fn is_gone(&self, fid: Fid) -> bool
-        ensures { result ≡ is_gone self.now.files fid }
+        ensures { result ≡ is_gone self.now.tree.files fid }
     {
         self.files.length(fid).is_none()
     }
 
     // The length of a file in bytes, 0 where there is none.
     fn length(&self, fid: Fid) -> u32
-        ensures { result ≡ length (stored self.now.files fid.0) }
+        ensures { result ≡ length (stored self.now.tree.files fid.0) }
     {
         self.files.length(fid).unwrap_or(0)
     }
 
     // Why a file isn't given bytes up to this end, if it isn't.
     fn refusal_up_to(&self, fid: Fid, end: u64) -> Option<Refusal>
-        ensures { result ≡ first (when (is_gone self.now.files fid) Gone ∷ when (nat_lt max_file end) TooBig ∷ []) }
+        ensures { result ≡ first (when (is_gone self.now.tree.files fid) Gone ∷ when (nat_lt max_file end) TooBig ∷ []) }
     {
         if self.is_gone(fid) {
             return Some(Refusal::Gone);
@@ -85,7 +90,7 @@ impl Shelf {
 
     // Why the tree refuses a call, if it does.
     fn refusal(&self, call: &Call) -> Option<Refusal>
-        ensures { result ≡ refusal_of self.now call.now }
+        ensures { result ≡ refusal_of self.now.tree call.now }
     {
         match call {
             Call::Write { fid, offset, bytes } => {
@@ -100,7 +105,7 @@ impl Shelf {
     // The reply to an update.
     fn done(&self, call: &Call) -> Reply
         requires { is_update call.now ≡ true }
-        ensures { result ≡ reply_to self.now call.now }
+        ensures { result ≡ reply_to self.now.tree call.now }
     {
         if let Some(why) = self.refusal(call) {
             return Reply::Refused(why);
@@ -111,8 +116,9 @@ impl Shelf {
         }
     }
 
-    fn read(&self, alloc: Global, fid: Fid, offset: u32, len: u32) -> Mem<Reply>
-        ensures { IfOk result (λ reply. reply ≡ reply_to self.now (Read fid offset len)) }
+    fn read(&mut self, alloc: Global, fid: Fid, offset: u32, len: u32) -> Mem<Reply>
+        ensures reply { IfOk result (λ reply. reply ≡ reply_to self.old.tree (Read fid offset len)) }
+        ensures same { self.new ≡ self.old }
     {
         if self.is_gone(fid) {
             return Ok(Reply::Refused(Refusal::Gone));
@@ -121,7 +127,7 @@ impl Shelf {
     }
 
     fn list(&self, alloc: Global, path: &Option<Path>) -> Mem<Reply>
-        ensures { IfOk result (λ reply. reply ≡ reply_to self.now (ListOf path.now)) }
+        ensures { IfOk result (λ reply. reply ≡ reply_to self.now.tree (ListOf path.now)) }
     {
         match self.names.list(alloc, path.as_ref()) {
             Ok(names) => Ok(Reply::Names(names)),
@@ -132,7 +138,7 @@ impl Shelf {
 
     // What is shown of an entry.
     fn listed(&self, entry: Entry) -> Listed
-        ensures { result ≡ listed self.now.files (seen entry) }
+        ensures { result ≡ listed self.now.tree.files (seen entry) }
     {
         match entry {
             Entry::Dir => Listed::Dir,
@@ -144,7 +150,7 @@ impl Shelf {
     }
 
     fn stat(&self, path: &Path) -> Reply
-        ensures { result ≡ reply_to self.now (Stat path.now) }
+        ensures { result ≡ reply_to self.now.tree (Stat path.now) }
     {
         match self.names.resolve(path) {
             Err(why) => Reply::Refused(why),
@@ -157,7 +163,7 @@ impl Shelf {
     }
 
     fn find(&self, path: &Path) -> Reply
-        ensures { result ≡ reply_to self.now (Find path.now) }
+        ensures { result ≡ reply_to self.now.tree (Find path.now) }
     {
         match self.names.resolve(path) {
             Err(why) => Reply::Refused(why),
@@ -167,9 +173,10 @@ impl Shelf {
     }
 
     /// The reply to a call.
-    pub fn reply(&self, alloc: Global, call: &Call) -> Mem<Reply>
+    pub fn reply(&mut self, alloc: Global, call: &Call) -> Mem<Reply>
         requires { IsWithin call.now }
-        ensures { IfOk result (λ reply. reply ≡ reply_to self.now call.now) }
+        ensures reply { IfOk result (λ reply. reply ≡ reply_to self.old.tree call.now) }
+        ensures same { self.new ≡ self.old }
     {
         match call {
             Call::Read { fid, offset, len } => self.read(alloc, *fid, *offset, *len),
@@ -187,9 +194,10 @@ impl Shelf {
     }
 
     fn create(&mut self, alloc: Global, path: &Path) -> Mem<()>
-        requires { name_refusal self.old.names (Create path.now) ≡ None }
-        ensures ok { OnOk result (self.new ≡ effect self.old (Create path.now)) }
-        ensures err { OnErr result (self.new ≡ self.old) }
+        requires { name_refusal self.old.tree.names (Create path.now) ≡ None }
+        ensures ok { OnOk result (self.new.tree ≡ effect self.old.tree (Create path.now)) }
+        ensures err { OnErr result (self.new.tree ≡ self.old.tree) }
+        ensures blocks { self.new.blocks ≡ self.old.blocks }
     {
         let fid = Fid(self.names.next());
         self.files.add(alloc, fid)?;
@@ -203,16 +211,18 @@ impl Shelf {
     }
 
     fn mkdir(&mut self, alloc: Global, path: &Path) -> Mem<()>
-        requires { name_refusal self.old.names (Mkdir path.now) ≡ None }
-        ensures ok { OnOk result (self.new ≡ effect self.old (Mkdir path.now)) }
-        ensures err { OnErr result (self.new ≡ self.old) }
+        requires { name_refusal self.old.tree.names (Mkdir path.now) ≡ None }
+        ensures ok { OnOk result (self.new.tree ≡ effect self.old.tree (Mkdir path.now)) }
+        ensures err { OnErr result (self.new.tree ≡ self.old.tree) }
+        ensures blocks { self.new.blocks ≡ self.old.blocks }
     {
         self.names.mkdir(alloc, path).map_err(|_| NoMemory)
     }
 
     fn remove(&mut self, path: &Path)
-        requires { name_refusal self.old.names (Remove path.now) ≡ None }
-        ensures { self.new ≡ effect self.old (Remove path.now) }
+        requires { name_refusal self.old.tree.names (Remove path.now) ≡ None }
+        ensures tree { self.new.tree ≡ effect self.old.tree (Remove path.now) }
+        ensures blocks { self.new.blocks ≡ self.old.blocks }
     {
         if let Ok(fid) = self.names.remove(path) {
             drop_file(&mut self.files, fid);
@@ -220,36 +230,41 @@ impl Shelf {
     }
 
     fn rename(&mut self, alloc: Global, from: &Path, to: &Path) -> Mem<()>
-        requires { name_refusal self.old.names (Rename from.now to.now) ≡ None }
-        ensures ok { OnOk result (self.new ≡ effect self.old (Rename from.now to.now)) }
-        ensures err { OnErr result (self.new ≡ self.old) }
+        requires { name_refusal self.old.tree.names (Rename from.now to.now) ≡ None }
+        ensures ok { OnOk result (self.new.tree ≡ effect self.old.tree (Rename from.now to.now)) }
+        ensures err { OnErr result (self.new.tree ≡ self.old.tree) }
+        ensures blocks { self.new.blocks ≡ self.old.blocks }
     {
         self.names.rename(alloc, from, to).map_err(|_| NoMemory)
     }
 
     fn write(&mut self, alloc: Global, fid: Fid, offset: u32, bytes: &[u8]) -> Mem<()>
         requires some { 1 ≤ length bytes.now }
-        requires free { refusal_of self.old (Write fid offset bytes.now) ≡ None }
-        ensures ok { OnOk result (self.new ≡ effect self.old (Write fid offset bytes.now)) }
-        ensures err { OnErr result (self.new ≡ self.old) }
+        requires free { refusal_of self.old.tree (Write fid offset bytes.now) ≡ None }
+        ensures ok { OnOk result (self.new.tree ≡ effect self.old.tree (Write fid offset bytes.now)) }
+        ensures err { OnErr result (self.new.tree ≡ self.old.tree) }
+        ensures stripes { StripesHold self.new.blocks }
     {
         self.files.write(alloc, fid, offset, bytes)
     }
 
     fn truncate(&mut self, alloc: Global, fid: Fid, size: u32) -> Mem<()>
-        requires { refusal_of self.old (Truncate fid size) ≡ None }
-        ensures ok { OnOk result (self.new ≡ effect self.old (Truncate fid size)) }
-        ensures err { OnErr result (self.new ≡ self.old) }
+        requires { refusal_of self.old.tree (Truncate fid size) ≡ None }
+        ensures ok { OnOk result (self.new.tree ≡ effect self.old.tree (Truncate fid size)) }
+        ensures err { OnErr result (self.new.tree ≡ self.old.tree) }
+        ensures stripes { StripesHold self.new.blocks }
     {
         self.files.truncate(alloc, fid, size)
     }
 
-    /// Does a call, unless the tree refuses it. Where memory runs out nothing changes.
+    /// Does a call, unless the tree refuses it. Where memory runs out the tree is as it was.
     pub fn apply(&mut self, alloc: Global, call: &Call) -> Mem<()>
         requires { IsWithin call.now }
-        ensures ok { OnOk result (self.new ≡ applied self.old call.now) }
-        ensures err { OnErr result (self.new ≡ self.old) }
+        ensures ok { OnOk result (self.new.tree ≡ applied self.old.tree call.now) }
+        ensures err { OnErr result (self.new.tree ≡ self.old.tree) }
+        ensures stripes { StripesHold self.new.blocks }
     {
+        let _ = &self.files;
         if self.refusal(call).is_some() {
             return Ok(());
         }
@@ -273,7 +288,7 @@ impl Shelf {
 
     /// The tree in the order of path bytes, with the files' lengths.
     pub fn listing(&self, alloc: Global) -> Mem<TreeList>
-        ensures { IfOk result (λ list. list ≡ listing self.now) }
+        ensures { IfOk result (λ list. list ≡ listing self.now.tree) }
     {
         let mut entries = Vec::new(alloc);
         for (path, entry) in self.names.entries(alloc)? {

@@ -11,8 +11,8 @@ use zb_types::{ByteList, Call, Fid, Geometry, Mem, Node, Path};
 
 // The bytes from 129 on and the length of a file that has two letters at byte 130, is cut behind the first, and is then
 // extended; and the length once it is removed.
-fn gap(alloc: Global) -> Mem<(ByteList, Option<u32>, Option<u32>)> {
-    let mut files = Files::new(alloc, 64)?;
+fn gap(alloc: Global, geo: &Geometry) -> Mem<(ByteList, Option<u32>, Option<u32>)> {
+    let mut files = Files::new(alloc, geo)?;
     let fid = Fid(7);
     files.add(alloc, fid)?;
     files.write(alloc, fid, 130, b"ab")?;
@@ -25,11 +25,13 @@ fn gap(alloc: Global) -> Mem<(ByteList, Option<u32>, Option<u32>)> {
 }
 
 #[test]
-fn holes_and_extensions_read_as_zeros(rt: HostRuntime) {
-    let (bytes, length, removed) = gap(rt.alloc()).expect(&rt, "memory");
+fn holes_and_extensions_read_as_zeros(rt: HostRuntime) -> Result<(), Fail> {
+    let geo = Geometry::new(3, 1, 256, 64, 32)?;
+    let (bytes, length, removed) = gap(rt.alloc(), &geo)?;
     assert_eq!(rt; bytes.slice(), [0, b'a', 0, 0, 0].as_slice());
     assert_eq!(rt; length, Some(134));
     assert_eq!(rt; removed, None);
+    Ok(())
 }
 
 const REPORT: &[u8] =

@@ -39,7 +39,7 @@ impl<O: Outside + Drop> World<O> {
         ensures cause { IfErr result (λ e. e.0 ≡ StartFault.NoMemory) }
         ensures back { IfErr result (λ e. e.1 ≡ out) }
     {
-        match Ledger::new(alloc, geo.block) {
+        match Ledger::new(alloc, &geo) {
             Ok(ledger) => Ok(World { ledger, out }),
             Err(NoMemory) => Err((StartFault::NoMemory, out)),
         }

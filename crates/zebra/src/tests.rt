@@ -125,3 +125,41 @@ fn a_device_call_that_fails_ends_the_run(rt: HostRuntime) {
         assert_eq!(rt; status, wanted);
     }
 }
+
+/// The blocks of a file that spans many stripes.
+const BLOCKS: u32 = 128;
+
+/// A script that fills a file on so many servers, block by block, and then reads each block, and its report.
+fn many_stripes(alloc: Global, servers: u8) -> Mem<(String, String)> {
+    let mut script = format!(in alloc;
+        "zebra 1 servers {servers} clients 1 fragment 256 block 64 slots 32\nc1 create /a\n"
+    )?;
+    let mut report = format!(in alloc; "c1 1 fid 1\n")?;
+    for number in 0..BLOCKS {
+        let offset = number * 64;
+        let write = number * 2 + 2;
+        let sync = write + 1;
+        script.push_str(&format!(in alloc; "c1 write 1 {offset} \"{number:064}\"\nc1 sync\n")?)?;
+        report.push_str(&format!(in alloc;
+            "c1 {write} kept buffered\nc1 {write} done\nc1 {sync} done\n"
+        )?)?;
+    }
+    for number in 0..BLOCKS {
+        let offset = number * 64;
+        let read = BLOCKS * 2 + 2 + number;
+        script.push_str(&format!(in alloc; "c1 read 1 {offset} 64\n")?)?;
+        report.push_str(&format!(in alloc; "c1 {read} bytes \"{number:064}\"\n")?)?;
+    }
+    report.push_str("file /a 1 8192\nend 0\n")?;
+    Ok((script, report))
+}
+
+#[test]
+fn a_file_spans_many_stripes(rt: HostRuntime) {
+    for servers in [3, 4, 16] {
+        let (script, report) = many_stripes(rt.alloc(), servers).expect(&rt, "memory");
+        let (status, out) = run(rt.alloc(), "run", script.as_bytes(), &[]).expect(&rt, "memory");
+        assert_eq!(rt; out.printed(), report.as_bytes());
+        assert_eq!(rt; status, 0);
+    }
+}

@@ -1,5 +1,5 @@
 -- What a file shows after it was cut or extended.
-use Rattle.std.proofs.Common.{◌≡◌, ◌≢◌, ◌⊎◌, ℕ, ◌+◌, ◌*◌, ◌/◌, ◌%◌, ◌<◌, ◌≤◌, List, take, Some, None, Option, refl, sym, ap, ◌∙◌, inl, inr, arith, length-take}
+use Rattle.std.proofs.Common.{◌≡◌, ◌≢◌, ◌⊎◌, ℕ, ◌+◌, ◌*◌, ◌/◌, ◌%◌, ◌<◌, ◌≤◌, List, length, take, Some, None, Option, refl, sym, ap, subst, ◌∙◌, inl, inr, arith, length-take}
 use Rattle.std.specs.Prelude.{slice_index, IsSome, nat_le, if◌then◌else◌}
 use Rattle.std.specs.Option.{ForSome}
 use Rattle.std.specs.Ordering.{nat_cmp}
@@ -14,22 +14,21 @@ use Rattle.zb_types.specs.Bytes.{resized}
 use Rattle.zb_world.proofs.InBlocks.Bytes.{same_first_bytes}
 use Rattle.zb_world.proofs.InBlocks.Kept.{points, block_grown}
 use Rattle.zb_world.proofs.InBlocks.Shown.{byte-shown_bytes}
-use Rattle.zb_world.specs.Blocks.{bytes_at, IsStored, Extends}
-use Rattle.zb_world.specs.Files.{place_of, place_at, block_at, HasSlot, IsSize, IsLaid, file_byte, shown_bytes}
-use Rattle.zb_world.specs.declared.blocks.Blocks.{Blocks}
-use Rattle.zb_world.specs.declared.blocks.Place.{Place}
+use Rattle.zb_world.specs.Files.{bytes_at, place_of, place_at, block_at, HasSlot, IsSize, IsLaid, file_byte, shown_bytes}
+use Rattle.zb_blocks.specs.Blocks.{IsStored, Extends, SeenBlocks}
+use Rattle.zb_types.specs.declared.ids.Ptr.{Ptr}
 use Rattle.zb_world.specs.declared.files.FileState.{FileState}
 
 -- the blocks below the new end stay, that in which it lies is cut, and those behind it are holes
-pub record Cuts (size n : ℕ) (old new : Blocks) (was file : FileState) : Type 0 where
+pub record Cuts (size n : ℕ) (old new : SeenBlocks) (was file : FileState) : Type 0 where
   pub others : Extends old new
   pub below : (k : ℕ) → k < n / size → place_at file k ≡ place_at was k
   pub here : block_at new file (n / size) ≡ take (n % size) (block_at old was (n / size))
-  pub stored : (place : Place) → place_at file (n / size) ≡ Some place → IsStored new place
+  pub stored : (place : Ptr) → place_at file (n / size) ≡ Some place → IsStored new place
   pub behind : (k : ℕ) → n / size < k → place_at file k ≡ None
   pub length : file.length ≡ n
 
-module _ {size n : ℕ} {old new : Blocks} {was file : FileState} (laid : IsLaid size old was) (is_size : IsSize size) (short : n ≤ max_file) (r : Cuts size n old new was file) where
+module _ {size n : ℕ} {old new : SeenBlocks} {was file : FileState} (laid : IsLaid size old was) (is_size : IsSize size) (short : n ≤ max_file) (r : Cuts size n old new was file) where
   abbrev shown : List ℕ
   shown = shown_bytes size old was
 
@@ -53,7 +52,7 @@ module _ {size n : ℕ} {old new : Blocks} {was file : FileState} (laid : IsLaid
       let past : n ≤ i = omega (arith, more, div-add-mod' n size, mod_below n size (omega (arith, is_size.low)), div-add-mod' i size) in
       record {
         below = λ lt. absurd (omega arith);
-        behind = λ _. ap (λ (place : Option Place). slice_index (bytes_at new place) (i % size)) (r.behind (i / size) l);
+        behind = λ _. ap (λ (place : Option Ptr). slice_index (bytes_at new place) (i % size)) (r.behind (i / size) l);
       }
 
   byte_here : (i : ℕ) → i / size ≡ n / size → Byte i
@@ -81,7 +80,7 @@ module _ {size n : ℕ} {old new : Blocks} {was file : FileState} (laid : IsLaid
   pub resized_shown : shown_bytes size new file ≡ resized shown n
   resized_shown = same_first_bytes file.length n (file_byte size new file) (slice_index shown) r.length (λ i l. (byte_now i).below (omega (arith, r.length)))
 
-  stored_now : (k : ℕ) (place : Place) → place_at file k ≡ Some place → IsStored new place
+  stored_now : (k : ℕ) (place : Ptr) → place_at file k ≡ Some place → IsStored new place
   stored_now k place e = elim (cases_lt k (n / size)) as (λ _. IsStored new place) [
     | inl below ↦ r.others.stored place (laid.stored k place (sym (r.below k below) ∙ e))
     | inr low ↦ elim (cases_lt (n / size) k) as (λ _. IsStored new place) [
@@ -90,20 +89,32 @@ module _ {size n : ℕ} {old new : Blocks} {was file : FileState} (laid : IsLaid
     ]
   ]
 
+  whole_now : (k : ℕ) → length (block_at new file k) ≤ size
+  whole_now k = elim (cases_lt k (n / size)) as (λ _. length (block_at new file k) ≤ size) [
+    | inl below ↦ subst (λ (block : List ℕ). length block ≤ size) (sym (ap (bytes_at new) (r.below k below) ∙ block_grown (points laid) r.others k)) (laid.whole k)
+    | inr low ↦ elim (cases_lt (n / size) k) as (λ _. length (block_at new file k) ≤ size) [
+      | inl behind ↦ subst (λ (place : Option Ptr). length (bytes_at new place) ≤ size) (sym (r.behind k behind)) (omega arith)
+      | inr high ↦
+          let at : k ≡ n / size = omega arith in
+          subst (λ (block : List ℕ). length block ≤ size) (sym (ap (block_at new file) at ∙ r.here)) (omega (arith, length-take (n % size) (block_at old was (n / size)), laid.whole (n / size)))
+    ]
+  ]
+
   pub resized_laid : IsLaid size new file
   resized_laid = record {
     stored = stored_now;
+    whole = whole_now;
     past = λ i le. (byte_now i).behind (omega (arith, r.length));
     short = omega (arith, r.length);
   }
 
 -- where there is no slot, there is no place
-slot_or_hole : (slot : Option (Option Place)) → IsSome slot ⊎ (place_of slot ≡ None)
+slot_or_hole : (slot : Option (Option Ptr)) → IsSome slot ⊎ (place_of slot ≡ None)
 slot_or_hole None = inr refl
 slot_or_hole (Some s) = inl refl
 
 -- the blocks behind the last were dropped, and the last was put to where its first bytes stand
-module _ (size n : ℕ) (old new : Blocks) (was kept file : FileState) (cut : Option Place) (kept_to : (k : ℕ) → place_at kept k ≡ (if nat_le k (n / size) then place_at was k else None))
+module _ (size n : ℕ) (old new : SeenBlocks) (was kept file : FileState) (cut : Option Ptr) (kept_to : (k : ℕ) → place_at kept k ≡ (if nat_le k (n / size) then place_at was k else None))
     (here : HasSlot kept (n / size) → place_at file (n / size) ≡ cut) (none : place_at kept (n / size) ≡ None → cut ≡ None → place_at file (n / size) ≡ None)
     (hole : place_at was (n / size) ≡ None → cut ≡ None) where
   kept_up_to : (k : ℕ) → k ≤ n / size → place_at kept k ≡ place_at was k

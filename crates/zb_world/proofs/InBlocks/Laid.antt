@@ -1,5 +1,5 @@
 -- Files under their numbers while blocks are stored and one file changes.
-use Rattle.std.proofs.Common.{◌≡◌, ℕ, ◌/◌, ◌%◌, Bool, eqb, List, [], ◌∷◌, length, Option, Some, None, refl, sym, ap, ◌∙◌, subst, inl, inr, arith}
+use Rattle.std.proofs.Common.{◌≡◌, ℕ, ◌/◌, ◌%◌, ◌≤◌, Bool, eqb, List, [], ◌∷◌, length, Option, Some, None, refl, sym, ap, ◌∙◌, subst, inl, inr, arith}
 use Rattle.std.specs.Prelude.{if◌then◌else◌, IsSome, nat_lt, option_map, slice_index}
 use Rattle.std.specs.BTreeMap.{BTreeMap, is_at}
 use Rattle.std.specs.Map.{lookup}
@@ -9,13 +9,16 @@ use Rattle.std.proofs.lemmas.Option.{none-some, same_Some}
 use Rattle.zb_types.specs.Keyed.{look, put, replaced, without, changed}
 use Rattle.zb_types.specs.Tree.{stored, or_none}
 use Rattle.zb_world.proofs.InBlocks.Keys.{look-changed, changed-replaced, replaced_same}
-use Rattle.zb_world.proofs.InBlocks.Kept.{shown_kept, laid_kept}
+use Rattle.zb_world.proofs.InBlocks.Kept.{places_same, shown_kept, laid_kept}
 use Rattle.zb_world.proofs.InBlocks.Shown.{length-shown_bytes}
-use Rattle.zb_world.specs.Blocks.{bytes_at, Extends}
-use Rattle.zb_world.specs.Files.{place_of, place_at, SamePlaces, IsLaid, shown_bytes, EachFile, shown_files}
-use Rattle.zb_world.specs.declared.blocks.Blocks.{Blocks}
-use Rattle.zb_world.specs.declared.blocks.Place.{Place}
+use Rattle.zb_world.specs.Files.{bytes_at, place_of, place_at, IsLaid, shown_bytes, SeenFiles, EachFile, shown_files}
+use Rattle.zb_blocks.specs.Blocks.{Extends, SeenBlocks}
+use Rattle.zb_types.specs.declared.ids.Ptr.{Ptr}
 use Rattle.zb_world.specs.declared.files.FileState.{FileState}
+
+-- files with these bytes, over blocks
+abbrev pub shown_over : SeenBlocks → List (ℕ × List ℕ) → SeenFiles
+shown_over blocks files = record { files = files; blocks = blocks }
 
 pub each_put : (P : FileState → Type 0) (files : List (ℕ × FileState)) (k : ℕ) (file : FileState) → EachFile P files → P file → EachFile P (put k file files)
 each_put P [] k file all this = (this, tt)
@@ -41,25 +44,23 @@ each_look P (d ∷ ds) k file all e = elim (cases_Bool (eqb d.0 k)) as (λ _. P 
   | inr f ↦ each_look P ds k file all.1 (sym (ap (λ (z : Bool). if z then Some d.1 else look k ds) f) ∙ e)
 ]
 
-places_same : (file : FileState) → SamePlaces file file
-places_same file = record { length = refl; places = λ k. refl; slots = λ k s. s }
-
 -- what stands under a number shows the file's bytes
-pub stored_is : (size : ℕ) (blocks : Blocks) (files : List (ℕ × FileState)) (k : ℕ) (file : FileState) → look k files ≡ Some file → stored (shown_files size blocks files) k ≡ shown_bytes size blocks file
+pub stored_is : (size : ℕ) (blocks : SeenBlocks) (files : List (ℕ × FileState)) (k : ℕ) (file : FileState) → look k files ≡ Some file → stored (shown_files size blocks files) k ≡ shown_bytes size blocks file
 stored_is size blocks files k file there = ap or_none (look-changed (shown_bytes size blocks) k files ∙ ap (option_map (shown_bytes size blocks)) there)
 
 -- a file with no blocks
-pub empty_laid : (size : ℕ) (blocks : Blocks) (none : BTreeMap ℕ (Option Place)) → none.entries ≡ [] → IsLaid size blocks (record { length = 0; blocks = none })
+pub empty_laid : (size : ℕ) (blocks : SeenBlocks) (none : BTreeMap ℕ (Option Ptr)) → none.entries ≡ [] → IsLaid size blocks (record { length = 0; blocks = none })
 empty_laid size blocks none e =
-    let hole : (k : ℕ) → place_at (record { length = 0; blocks = none }) k ≡ None = λ k. ap (λ (es : List (ℕ × Option Place)). place_of (lookup (is_at (nat_cmp k)) es)) e in
+    let hole : (k : ℕ) → place_at (record { length = 0; blocks = none }) k ≡ None = λ k. ap (λ (es : List (ℕ × Option Ptr)). place_of (lookup (is_at (nat_cmp k)) es)) e in
     record {
       stored = λ k place there. absurd (none-some place (sym (hole k) ∙ there));
-      past = λ i le. ap (λ (place : Option Place). slice_index (bytes_at blocks place) (i % size)) (hole (i / size));
+      whole = λ k. subst (λ (place : Option Ptr). length (bytes_at blocks place) ≤ size) (sym (hole k)) (omega arith);
+      past = λ i le. ap (λ (place : Option Ptr). slice_index (bytes_at blocks place) (i % size)) (hole (i / size));
       short = omega arith;
     }
 
 -- files that don't change while blocks are stored
-module _ (size : ℕ) {old new : Blocks} (others : Extends old new) where
+module _ (size : ℕ) {old new : SeenBlocks} (others : Extends old new) where
   pub each_kept : (files : List (ℕ × FileState)) → EachFile (IsLaid size old) files → EachFile (IsLaid size new) files
   each_kept [] all = tt
   each_kept (e ∷ es) all = (laid_kept all.0 others (places_same e.1), each_kept es all.1)
@@ -89,16 +90,16 @@ module _ (size : ℕ) {old new : Blocks} (others : Extends old new) where
           ∙ replaced_same k (shown_bytes size old was) (shown_files size old files) (look-changed (shown_bytes size old) k files ∙ ap (option_map (shown_bytes size old)) there)
 
 -- a number under which nothing stands
-pub look_none : (size : ℕ) (blocks : Blocks) (files : List (ℕ × FileState)) (k : ℕ) → look k files ≡ None → look k (shown_files size blocks files) ≡ None
+pub look_none : (size : ℕ) (blocks : SeenBlocks) (files : List (ℕ × FileState)) (k : ℕ) → look k files ≡ None → look k (shown_files size blocks files) ≡ None
 look_none size blocks files k e = look-changed (shown_bytes size blocks) k files ∙ ap (option_map (shown_bytes size blocks)) e
 
 pub not_there : {A : Type 0} (o : Option A) → o ≡ None → IsSome o → ⊥
 not_there None e s = false≢true s
 not_there (Some a) e s = none-some a (sym e)
 
-lengths : (size : ℕ) (blocks : Blocks) (o : Option FileState) → option_map (length {A = ℕ}) (option_map (shown_bytes size blocks) o) ≡ option_map (λ (f : FileState). f.length) o
+lengths : (size : ℕ) (blocks : SeenBlocks) (o : Option FileState) → option_map (length {A = ℕ}) (option_map (shown_bytes size blocks) o) ≡ option_map (λ (f : FileState). f.length) o
 lengths size blocks None = refl
 lengths size blocks (Some file) = ap Some (length-shown_bytes size blocks file)
 
-pub length_shown : (size : ℕ) (blocks : Blocks) (files : List (ℕ × FileState)) (k : ℕ) → option_map (length {A = ℕ}) (look k (shown_files size blocks files)) ≡ option_map (λ (f : FileState). f.length) (look k files)
+pub length_shown : (size : ℕ) (blocks : SeenBlocks) (files : List (ℕ × FileState)) (k : ℕ) → option_map (length {A = ℕ}) (look k (shown_files size blocks files)) ≡ option_map (λ (f : FileState). f.length) (look k files)
 length_shown size blocks files k = ap (option_map (length {A = ℕ})) (look-changed (shown_bytes size blocks) k files) ∙ lengths size blocks (look k files)

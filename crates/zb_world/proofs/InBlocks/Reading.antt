@@ -8,7 +8,7 @@ use Rattle.std.proofs.Math.Nat.{div-eq_of_lt-le}
 use Rattle.zb_types.specs.Bytes.{first_bytes}
 use Rattle.zb_world.proofs.InBlocks.Bytes.{length-first_bytes, byte-first_bytes, same_bytes, same_first_bytes, zeros}
 use Rattle.zb_world.specs.Files.{file_byte, block_at}
-use Rattle.zb_world.specs.declared.blocks.Blocks.{Blocks}
+use Rattle.zb_blocks.specs.Blocks.{SeenBlocks}
 use Rattle.zb_world.specs.declared.files.FileState.{FileState}
 
 -- bytes and the bytes that follow them
@@ -54,11 +54,11 @@ module _ (at y size : ℕ) (pos : 0 < size) (inside : at % size + y < size) wher
   same_mod : (at + y) % size ≡ at % size + y
   same_mod = omega (arith, div-add-mod' at size, div-add-mod' (at + y) size, ap (λ k. k * size) same_div)
 
-  pub byte_in_block : (blocks : Blocks) (file : FileState) → slice_index (block_at blocks file (at / size)) (at % size + y) ≡ file_byte size blocks file (at + y)
+  pub byte_in_block : (blocks : SeenBlocks) (file : FileState) → slice_index (block_at blocks file (at / size)) (at % size + y) ≡ file_byte size blocks file (at + y)
   byte_in_block blocks file = sym (ap (λ k. slice_index (block_at blocks file k) ((at + y) % size)) same_div ∙ ap (slice_index (block_at blocks file (at / size))) same_mod)
 
 -- one block more was read
-pub read_on : (size start at n : ℕ) (blocks : Blocks) (file : FileState) (block bytes more : List ℕ) → 0 < size → start ≤ at → at % size + n ≤ size
+pub read_on : (size start at n : ℕ) (blocks : SeenBlocks) (file : FileState) (block bytes more : List ℕ) → 0 < size → start ≤ at → at % size + n ≤ size
     → block ≡ block_at blocks file (at / size)
     → bytes ≡ first_bytes (at - start) (λ i. file_byte size blocks file (start + i))
     → more ≡ bytes ++ first_bytes n (λ y. slice_index block (at % size + y))

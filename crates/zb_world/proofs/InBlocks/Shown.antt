@@ -6,10 +6,10 @@ use Rattle.std.proofs.lemmas.Nat.{le-div}
 use Rattle.std.proofs.Math.Nat.{div-mul-le_self}
 use Rattle.zb_world.proofs.InBlocks.Bytes.{length-first_bytes, byte-first_bytes, byte-first_bytes_past}
 use Rattle.zb_world.specs.Files.{IsLaid, file_byte, shown_bytes}
-use Rattle.zb_world.specs.declared.blocks.Blocks.{Blocks}
+use Rattle.zb_blocks.specs.Blocks.{SeenBlocks}
 use Rattle.zb_world.specs.declared.files.FileState.{FileState}
 
-module _ {size : ℕ} {blocks : Blocks} {file : FileState} (laid : IsLaid size blocks file) where
+module _ {size : ℕ} {blocks : SeenBlocks} {file : FileState} (laid : IsLaid size blocks file) where
   -- also past the end, where both are zero
   pub byte-shown_bytes : (i : ℕ) → slice_index (shown_bytes size blocks file) i ≡ file_byte size blocks file i
   byte-shown_bytes i = elim (cases_lt i file.length) [
@@ -17,7 +17,7 @@ module _ {size : ℕ} {blocks : Blocks} {file : FileState} (laid : IsLaid size b
     | inr l ↦ byte-first_bytes_past file.length i (file_byte size blocks file) l ∙ sym (laid.past i l)
   ]
 
-pub length-shown_bytes : (size : ℕ) (blocks : Blocks) (file : FileState) → length (shown_bytes size blocks file) ≡ file.length
+pub length-shown_bytes : (size : ℕ) (blocks : SeenBlocks) (file : FileState) → length (shown_bytes size blocks file) ≡ file.length
 length-shown_bytes size blocks file = length-first_bytes file.length (file_byte size blocks file)
 
 -- a later byte stands in no earlier block

@@ -1,20 +1,20 @@
 -- What a file shows after its touched blocks were replaced.
-use Rattle.std.proofs.Common.{◌≡◌, ℕ, ◌+◌, ◌-◌, ◌*◌, ◌/◌, ◌%◌, ◌<◌, ◌≤◌, min, max, List, length, take, drop, slice_index_or, Some, sym, ap, subst, ◌∙◌, inl, inr, arith, length-take, length-drop}
-use Rattle.std.specs.Prelude.{slice_index}
+use Rattle.std.proofs.Common.{◌≡◌, ℕ, zero, suc, ◌+◌, ◌-◌, ◌*◌, ◌/◌, ◌%◌, ◌<◌, ◌≤◌, min, max, List, [], ◌∷◌, length, take, drop, slice_index_or, Some, refl, sym, ap, subst, ◌∙◌, inl, inr, arith, length-take, length-drop}
+use Rattle.std.specs.Prelude.{slice_index, All}
+use Rattle.std.specs.List.{AllZip}
 use Rattle.std.proofs.lemmas.Bool.{cases_lt}
 use Rattle.std.proofs.lemmas.List.{get_or-take, get_or-drop, get_or_past}
 use Rattle.std.proofs.lemmas.Nat.{div-add-mod', mod_below, mul-le}
 use Rattle.std.proofs.lemmas.Option.{same_Some}
-use Rattle.std.proofs.Math.Nat.{div-mul-le_self}
+use Rattle.std.proofs.Math.Nat.{div-mul-le_self, div-le_self}
 use Rattle.zb_types.specs.Apply.{max_file}
 use Rattle.zb_types.specs.Bytes.{byte_over, written}
-use Rattle.zb_world.proofs.InBlocks.Bytes.{byte_over_within, byte_over_before, byte_over_behind, byte-written, same_first_bytes}
+use Rattle.zb_world.proofs.InBlocks.Bytes.{byte_over_within, byte_over_before, byte_over_behind, byte-written, same_first_bytes, length-first_bytes}
 use Rattle.zb_world.proofs.InBlocks.Kept.{points, block_grown}
 use Rattle.zb_world.proofs.InBlocks.Shown.{byte-shown_bytes, length-shown_bytes, div_le_div}
-use Rattle.zb_world.specs.Blocks.{bytes_at, IsStored, Extends, IsAt}
-use Rattle.zb_world.specs.Files.{place_at, block_at, SamePlaces, IsSize, IsLaid, file_byte, shown_bytes, new_block_of, AreReady}
-use Rattle.zb_world.specs.declared.blocks.Blocks.{Blocks}
-use Rattle.zb_world.specs.declared.blocks.Place.{Place}
+use Rattle.zb_world.specs.Files.{bytes_at, place_at, block_at, SamePlaces, IsSize, IsLaid, file_byte, shown_bytes, low_of, high_of, part_of, new_block_of, AreNew}
+use Rattle.zb_blocks.specs.Blocks.{IsStored, Extends, IsAt, SeenBlocks}
+use Rattle.zb_types.specs.declared.ids.Ptr.{Ptr}
 use Rattle.zb_world.specs.declared.files.FileState.{FileState}
 
 -- byte y of a touched block, where the block starts at `start`
@@ -47,15 +47,38 @@ module _ (size offset start y : ℕ) (bytes old : List ℕ) (begins : start < of
   pub touched_behind : offset + length bytes ≤ start + y → slice_index (written old (low - start) part) y ≡ slice_index old y
   touched_behind l = byte-written old (low - start) part y ∙ byte_over_behind old (low - start) part y (omega (arith, length-part))
 
+-- block k after a write that has a byte in it: it has a byte, and has room in a block
+module _ (size offset k : ℕ) (bytes old : List ℕ) (pos : 0 < size) (some : 0 < length bytes) (begins : k * size < offset + length bytes) (ends : offset < k * size + size) (fits : length old ≤ size) where
+  length-new : length (new_block_of size offset bytes k old) ≡ max (length old) (low_of size offset k - k * size + (high_of size offset bytes k - low_of size offset k))
+  length-new = let part = length-part size offset (k * size) 0 bytes old begins ends pos in
+      length-first_bytes (max (length old) (low_of size offset k - k * size + length (part_of size offset bytes k))) (byte_over old (low_of size offset k - k * size) (part_of size offset bytes k))
+      ∙ ap (λ n. max (length old) (low_of size offset k - k * size + n)) part
+
+  pub new_some : 1 ≤ length (new_block_of size offset bytes k old)
+  new_some = omega (arith, length-new)
+
+  pub new_fits : length (new_block_of size offset bytes k old) ≤ size
+  new_fits = omega (arith, length-new)
+
+-- the blocks in which a write has a byte
+pub touched_begins : (size offset : ℕ) (bytes : List ℕ) → 0 < length bytes → 0 < size → (k : ℕ) → k ≤ (offset + length bytes - 1) / size → k * size < offset + length bytes
+touched_begins size offset bytes some pos k le = omega (arith, mul-le k size ((offset + length bytes - 1) / size) size le (omega arith), div-mul-le_self (offset + length bytes - 1) size)
+
+pub touched_ends : (size offset : ℕ) → 0 < size → (k : ℕ) → offset / size ≤ k → offset < k * size + size
+touched_ends size offset pos k le = omega (arith, mul-le (offset / size) size k size le (omega arith), div-add-mod' offset size, mod_below offset size pos)
+
+pub last_short : (size offset : ℕ) (bytes : List ℕ) → offset + length bytes ≤ max_file → (offset + length bytes - 1) / size ≤ max_file
+last_short size offset bytes range = omega (arith, div-le_self (offset + length bytes - 1) size)
+
 -- the places of the touched blocks are new, the others are as before
-pub record Rewrites (size offset : ℕ) (bytes : List ℕ) (old new : Blocks) (was file : FileState) : Type 0 where
+pub record Rewrites (size offset : ℕ) (bytes : List ℕ) (old new : SeenBlocks) (was file : FileState) : Type 0 where
   pub others : Extends old new
-  pub touched : (k : ℕ) → offset / size ≤ k → k ≤ (offset + length bytes - 1) / size → (place : Place) × (place_at file k ≡ Some place) × IsAt new (new_block_of size offset bytes k (block_at old was k)) place
+  pub touched : (k : ℕ) → offset / size ≤ k → k ≤ (offset + length bytes - 1) / size → (place : Ptr) × (place_at file k ≡ Some place) × IsAt new (new_block_of size offset bytes k (block_at old was k)) place
   pub below : (k : ℕ) → k < offset / size → place_at file k ≡ place_at was k
   pub behind : (k : ℕ) → (offset + length bytes - 1) / size < k → place_at file k ≡ place_at was k
   pub length : file.length ≡ max was.length (offset + length bytes)
 
-module _ {size offset : ℕ} {bytes : List ℕ} {old new : Blocks} {was file : FileState} (laid : IsLaid size old was) (is_size : IsSize size) (some : 0 < length bytes) (range : offset + length bytes ≤ max_file) (r : Rewrites size offset bytes old new was file) where
+module _ {size offset : ℕ} {bytes : List ℕ} {old new : SeenBlocks} {was file : FileState} (laid : IsLaid size old was) (is_size : IsSize size) (some : 0 < length bytes) (range : offset + length bytes ≤ max_file) (r : Rewrites size offset bytes old new was file) where
   abbrev shown : List ℕ
   shown = shown_bytes size old was
 
@@ -83,10 +106,10 @@ module _ {size offset : ℕ} {bytes : List ℕ} {old new : Blocks} {was file : F
 
   -- a block that was touched
   begins_at : (k : ℕ) → k ≤ (offset + length bytes - 1) / size → k * size < offset + length bytes
-  begins_at k le = omega (arith, mul-le k size ((offset + length bytes - 1) / size) size le (omega arith), div-mul-le_self (offset + length bytes - 1) size)
+  begins_at = touched_begins size offset bytes some (omega (arith, is_size.low))
 
   ends_at : (k : ℕ) → offset / size ≤ k → offset < k * size + size
-  ends_at k le = omega (arith, mul-le (offset / size) size k size le (omega arith), div-add-mod' offset size, mod_below offset size (omega (arith, is_size.low)))
+  ends_at = touched_ends size offset (omega (arith, is_size.low))
 
   new_bytes : (k : ℕ) → offset / size ≤ k → k ≤ (offset + length bytes - 1) / size → block_at new file k ≡ new_block_of size offset bytes k (block_at old was k)
   new_bytes k low high = let t = r.touched k low high in ap (bytes_at new) t.1 ∙ t.2.bytes
@@ -124,7 +147,7 @@ module _ {size offset : ℕ} {bytes : List ℕ} {old new : Blocks} {was file : F
   written_shown = same_first_bytes file.length (max (length shown) (offset + length bytes)) (file_byte size new file) (byte_over shown offset bytes)
       (omega (arith, r.length, length-shown_bytes size old was)) (λ i l. byte_now i)
 
-  stored_now : (k : ℕ) (place : Place) → place_at file k ≡ Some place → IsStored new place
+  stored_now : (k : ℕ) (place : Ptr) → place_at file k ≡ Some place → IsStored new place
   stored_now k place e = elim (cases_lt k (offset / size)) as (λ _. IsStored new place) [
     | inl below ↦ r.others.stored place (laid.stored k place (sym (r.below k below) ∙ e))
     | inr low ↦ elim (cases_lt ((offset + length bytes - 1) / size) k) as (λ _. IsStored new place) [
@@ -133,31 +156,71 @@ module _ {size offset : ℕ} {bytes : List ℕ} {old new : Blocks} {was file : F
     ]
   ]
 
+  whole_now : (k : ℕ) → length (block_at new file k) ≤ size
+  whole_now k = elim (cases_lt k (offset / size)) as (λ _. length (block_at new file k) ≤ size) [
+    | inl below ↦ subst (λ (block : List ℕ). length block ≤ size) (sym (same_block k (r.below k below))) (laid.whole k)
+    | inr low ↦ elim (cases_lt ((offset + length bytes - 1) / size) k) as (λ _. length (block_at new file k) ≤ size) [
+      | inl behind ↦ subst (λ (block : List ℕ). length block ≤ size) (sym (same_block k (r.behind k behind))) (laid.whole k)
+      | inr high ↦ subst (λ (block : List ℕ). length block ≤ size) (sym (new_bytes k low high))
+          (new_fits size offset k bytes (block_at old was k) (omega (arith, is_size.low)) some (begins_at k high) (ends_at k low) (laid.whole k))
+    ]
+  ]
+
   pub written_laid : IsLaid size new file
   written_laid = record {
     stored = stored_now;
+    whole = whole_now;
     past = λ i le. byte_now i ∙ byte_over_behind shown offset bytes i (omega (arith, r.length)) ∙ get_or_past shown i 0 (omega (arith, r.length, length-shown_bytes size old was));
     short = omega (arith, r.length, laid.short);
   }
 
--- the new places were set in the file for which blocks stood ready
-module _ {size offset : ℕ} {bytes : List ℕ} {old new : Blocks} {was mid file : FileState} (places : List Place) where
-  pub rewrites : offset / size + length places ≡ (offset + length bytes - 1) / size + 1 → AreReady size offset bytes (offset / size) old was new mid places → SamePlaces was mid → Extends old new
-      → ((j : ℕ) (d : Place) → j < length places → place_at file (offset / size + j) ≡ Some (slice_index_or places j d))
+-- these blocks have room in a block each
+module _ {size offset : ℕ} {bytes : List ℕ} {old : SeenBlocks} {was mid : FileState} {blocks : List (List ℕ)} (laid : IsLaid size old was) (is_size : IsSize size) (some : 0 < length bytes)
+    (count : offset / size + length blocks ≡ (offset + length bytes - 1) / size + 1) (new : AreNew size offset bytes (offset / size) old was mid blocks) where
+  pub all_fit : All (λ block. (1 ≤ length block) × (length block ≤ size)) blocks
+  all_fit j d l =
+      let k : ℕ = offset / size + j in
+      let block : List ℕ = block_at old was k in
+      let pos : 0 < size = omega (arith, is_size.low) in
+      let begins : k * size < offset + length bytes = touched_begins size offset bytes some pos k (omega arith) in
+      let ends : offset < k * size + size = touched_ends size offset pos k (omega arith) in
+      subst (λ (b : List ℕ). (1 ≤ length b) × (length b ≤ size)) (sym (new.each j d l))
+      (new_some size offset k bytes block pos some begins ends (laid.whole k), new_fits size offset k bytes block pos some begins ends (laid.whole k))
+
+pub zip_length : {A B : Type 0} (R : A → B → Type 0) (xs : List A) (ys : List B) → AllZip R xs ys → length xs ≡ length ys
+zip_length R [] [] all = refl
+zip_length R [] (y ∷ ys) all = absurd all
+zip_length R (x ∷ xs) [] all = absurd all
+zip_length R (x ∷ xs) (y ∷ ys) all = ap suc (zip_length R xs ys all.1)
+
+zip_at : {A B : Type 0} (R : A → B → Type 0) (xs : List A) (ys : List B) (i : ℕ) (d : A) (e : B) → AllZip R xs ys → i < length xs → R (slice_index_or xs i d) (slice_index_or ys i e)
+zip_at R [] [] i d e all l = absurd (omega arith)
+zip_at R [] (y ∷ ys) i d e all l = absurd all
+zip_at R (x ∷ xs) [] i d e all l = absurd all
+zip_at R (x ∷ xs) (y ∷ ys) zero d e all l = all.0
+zip_at R (x ∷ xs) (y ∷ ys) (suc i) d e all l = zip_at R xs ys i d e all.1 (omega (arith, l))
+
+-- the new places were set in the file for whose blocks there was room
+module _ {size offset : ℕ} {bytes : List ℕ} {old new : SeenBlocks} {was mid file : FileState} (blocks : List (List ℕ)) (places : List Ptr) where
+  pub rewrites : offset / size + length blocks ≡ (offset + length bytes - 1) / size + 1 → AreNew size offset bytes (offset / size) old was mid blocks → AllZip (IsAt new) blocks places → SamePlaces was mid → Extends old new
+      → ((j : ℕ) (d : Ptr) → j < length places → place_at file (offset / size + j) ≡ Some (slice_index_or places j d))
       → ((k : ℕ) → k < offset / size → place_at file k ≡ place_at mid k)
       → ((k : ℕ) → offset / size + length places ≤ k → place_at file k ≡ place_at mid k)
       → file.length ≡ max was.length (offset + length bytes)
       → Rewrites size offset bytes old new was file
-  rewrites count ready same others within below behind size_is = record {
-    others = others;
-    touched = λ k low high.
-        let none : Place = record { server = 0; place = 0 } in
-        let j : ℕ = k - offset / size in
-        let inside : j < length places = omega arith in
-        let at : offset / size + j ≡ k = omega arith in
-        subst (λ (n : ℕ). (place : Place) × (place_at file n ≡ Some place) × IsAt new (new_block_of size offset bytes n (block_at old was n)) place) at
-        (slice_index_or places j none, within j none inside, ready.each j none inside);
-    below = λ k l. below k l ∙ same.places k;
-    behind = λ k l. behind k (omega arith) ∙ same.places k;
-    length = size_is;
-  }
+  rewrites count are at same others within below behind size_is =
+      let one_each : length blocks ≡ length places = zip_length (IsAt new) blocks places at in
+      record {
+        others = others;
+        touched = λ k low high.
+            let none : Ptr = record { log = record { 0 = 0 }; stripe = 0; offset = 0; len = 0 } in
+            let j : ℕ = k - offset / size in
+            let inside : j < length blocks = omega arith in
+            let here : offset / size + j ≡ k = omega arith in
+            let stands : IsAt new (slice_index_or blocks j []) (slice_index_or places j none) = zip_at (IsAt new) blocks places j [] none at inside in
+            subst (λ (n : ℕ). (place : Ptr) × (place_at file n ≡ Some place) × IsAt new (new_block_of size offset bytes n (block_at old was n)) place) here
+            (slice_index_or places j none, within j none (omega arith), subst (λ (b : List ℕ). IsAt new b (slice_index_or places j none)) (are.each j [] inside) stands);
+        below = λ k l. below k l ∙ same.places k;
+        behind = λ k l. behind k (omega arith) ∙ same.places k;
+        length = size_is;
+      }

@@ -7,7 +7,8 @@ abbrev pub invariant-rest : goal.invariant-rest
 invariant-rest l = record {
   low : l.start ≤ l.at;
   high : l.at ≤ l.end;
-  read : l.bytes.items ≡ first_bytes (l.at - l.start) (λ i. file_byte l.size l.store l.file (l.start + i));
+  store : l.store ≡ l.initial.store;
+  read : l.bytes.items ≡ first_bytes (l.at - l.start) (λ i. file_byte l.size l.initial.store l.file (l.start + i));
 }
 
 abbrev pub decreases-rest : goal.decreases-rest

@@ -7,7 +7,7 @@ use Rattle.std.proofs.lemmas.Bool.Decides.{nat_tests}
 use Rattle.std.proofs.lemmas.Cmp.{nat_cmp_total}
 use Rattle.std.proofs.lemmas.Map.Views.{get-entries_below}
 use Rattle.zb_world.specs.Files.{place_of}
-use Rattle.zb_world.specs.declared.blocks.Place.{Place}
+use Rattle.zb_types.specs.declared.ids.Ptr.{Ptr}
 use Rattle.zb_world.proofs.files.FileState.keep_up_to.Goals as goal
 
 -- what is found below a bound is what was found before
@@ -16,7 +16,7 @@ kept m n last k e =
     let same : is_gt (nat_cmp (last + 1) k) ≡ nat_le k last = grind (arith, nat_tests) in
     get-entries_below nat_cmp_total m n (last + 1) k e ∙ ap (λ b. cond b (get nat_cmp m k) None) same
 
-place_cond : (b : Bool) (slot : Option (Option Place)) → place_of (cond b slot None) ≡ (if b then place_of slot else None)
+place_cond : (b : Bool) (slot : Option (Option Ptr)) → place_of (cond b slot None) ≡ (if b then place_of slot else None)
 place_cond true slot = refl
 place_cond false slot = refl
 

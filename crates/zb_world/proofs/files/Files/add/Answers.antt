@@ -1,7 +1,7 @@
 use Rattle.std.proofs.Common.{◌≡◌, ap, ◌∙◌, subst, sym}
 use Rattle.zb_types.specs.Keyed.{put}
 use Rattle.zb_world.proofs.InBlocks.Keys.{insert-put, changed-put}
-use Rattle.zb_world.proofs.InBlocks.Laid.{each_put, empty_laid}
+use Rattle.zb_world.proofs.InBlocks.Laid.{each_put, empty_laid, shown_over}
 use Rattle.zb_world.specs.Files.{IsLaid, shown_bytes, shown_files, EachFile}
 use Rattle.zb_world.specs.declared.files.FileState.{FileState}
 use Rattle.zb_world.proofs.files.Files.add.Goals as goal
@@ -14,6 +14,8 @@ invariant_of-self-2 c =
     let now : c.insert.new.self.entries ≡ put c.args.fid.0 file files = c.in_ok-insert.ensures.entries ∙ insert-put c.args.fid.0 file files in
     record {
       size_is = was.size_is;
+      same_size = was.same_size;
+      stripes_hold = was.stripes_hold;
       ordered = c.insert.ensures.ordered;
       each = subst (EachFile (IsLaid c.self.inside.block c.self.inside.store)) (sym now) (each_put (IsLaid c.self.inside.block c.self.inside.store) files c.args.fid.0 file was.each (empty_laid c.self.inside.block c.self.inside.store c.new.result c.new.ensures.empty));
     }
@@ -22,6 +24,5 @@ pub returns-clause-ok : goal.returns-clause-ok
 returns-clause-ok c =
     let files = c.self.inside.files.entries in
     let file : FileState = record { length = 0; blocks = c.new.result } in
-    rw (← c.self.view_is)
-    (ap (shown_files c.self.inside.block c.self.inside.store) (c.in_ok-insert.ensures.entries ∙ insert-put c.args.fid.0 file files)
-    ∙ changed-put (shown_bytes c.self.inside.block c.self.inside.store) c.args.fid.0 file files)
+    let now = ap (shown_files c.self.inside.block c.self.inside.store) (c.in_ok-insert.ensures.entries ∙ insert-put c.args.fid.0 file files) ∙ changed-put (shown_bytes c.self.inside.block c.self.inside.store) c.args.fid.0 file files in
+    rw (← c.self.view_is) (ap (shown_over c.self.inside.store) now)

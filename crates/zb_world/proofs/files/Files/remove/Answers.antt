@@ -1,7 +1,7 @@
 use Rattle.std.proofs.Common.{◌≡◌, ap, ◌∙◌, subst, sym}
 use Rattle.zb_types.specs.Keyed.{without}
 use Rattle.zb_world.proofs.InBlocks.Keys.{remove-without, changed-without}
-use Rattle.zb_world.proofs.InBlocks.Laid.{each_without}
+use Rattle.zb_world.proofs.InBlocks.Laid.{each_without, shown_over}
 use Rattle.zb_world.specs.Files.{IsLaid, shown_bytes, shown_files, EachFile}
 use Rattle.zb_world.proofs.files.Files.remove.Goals as goal
 
@@ -12,6 +12,8 @@ invariant_of-self c =
     let now : c.remove.new.self.entries ≡ without c.args.fid.0 files = c.remove.ensures.entries ∙ remove-without c.args.fid.0 files was.ordered in
     record {
       size_is = was.size_is;
+      same_size = was.same_size;
+      stripes_hold = was.stripes_hold;
       ordered = c.remove.ensures.ordered;
       each = subst (EachFile (IsLaid c.self.inside.block c.self.inside.store)) (sym now) (each_without (IsLaid c.self.inside.block c.self.inside.store) files c.args.fid.0 was.each);
     }
@@ -19,6 +21,5 @@ invariant_of-self c =
 pub returns : goal.returns
 returns c =
     let files = c.self.inside.files.entries in
-    rw (← c.self.view_is)
-    (ap (shown_files c.self.inside.block c.self.inside.store) (c.remove.ensures.entries ∙ remove-without c.args.fid.0 files c.self.invariant.ordered)
-    ∙ changed-without (shown_bytes c.self.inside.block c.self.inside.store) c.args.fid.0 files)
+    let now = ap (shown_files c.self.inside.block c.self.inside.store) (c.remove.ensures.entries ∙ remove-without c.args.fid.0 files c.self.invariant.ordered) ∙ changed-without (shown_bytes c.self.inside.block c.self.inside.store) c.args.fid.0 files in
+    rw (← c.self.view_is) (ap (shown_over c.self.inside.store) now)

@@ -11,7 +11,7 @@ use Rattle.zb_world.proofs.files.Files.truncate.Goals as goal
 pub returns-in_default-clause-ok : goal.returns-in_default-clause-ok
 returns-in_default-clause-ok c =
     let files = c.self.inside.files.entries in
-    absurd (not_there (look c.args.fid.0 (shown_files c.self.inside.block c.self.inside.store files)) (look_none c.self.inside.block c.self.inside.store files c.args.fid.0 (sym (lookup-look c.args.fid.0 files) ∙ sym c.in_default.ensures.value)) (rw (c.self.view_is) c.requires.there))
+    absurd (not_there (look c.args.fid.0 (shown_files c.self.inside.block c.self.inside.store files)) (look_none c.self.inside.block c.self.inside.store files c.args.fid.0 (sym (lookup-look c.args.fid.0 files) ∙ sym c.in_default.ensures.value)) (rw (← c.self.view_is) at c.requires.there))
 
 pub resize_file-requires-clause-laid : goal.resize_file-requires-clause-laid
 resize_file-requires-clause-laid c =
@@ -25,6 +25,8 @@ invariant_of-self-2 c =
     let holds = c.get_mut.follows.holds new in
     record {
       size_is = c.self.invariant.size_is;
+      same_size = c.resize_file.ensures.size ∙ c.self.invariant.same_size;
+      stripes_hold = c.resize_file.ensures.stripes;
       ordered = holds.4;
       each = subst (EachFile (IsLaid c.self.inside.block c.resize_file.new.store)) (sym (holds.0 ∙ set-replaced c.args.fid.0 new files)) (each_now c.self.inside.block c.resize_file.ensures.others files c.self.invariant.each c.args.fid.0 new c.resize_file.ensures.laid);
     }

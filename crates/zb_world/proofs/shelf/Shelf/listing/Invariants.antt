@@ -5,4 +5,4 @@ use Rattle.zb_world.proofs.Shelves.{shown_entries}
 use Rattle.zb_world.proofs.shelf.Shelf.listing.Given as goal
 
 abbrev pub invariant-loop-path : goal.invariant-loop-path
-invariant-loop-path l = l.entries.items ++ shown_entries l.self.files (into_iter_items l.path-iterator) ≡ listing l.self
+invariant-loop-path l = l.entries.items ++ shown_entries l.self.tree.files (into_iter_items l.path-iterator) ≡ listing l.self.tree

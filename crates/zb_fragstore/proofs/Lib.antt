@@ -1,0 +1,17 @@
+pub mod Absent
+pub mod Carried
+pub mod Fences
+pub mod Nexts
+pub mod Refused
+pub mod Retrieved
+pub mod Ranging
+pub mod Opened
+pub mod Building
+pub mod Formatted
+pub mod Within
+pub mod Told
+pub mod Found
+pub mod Looked
+pub mod Appended
+pub mod Taken
+pub mod Answered

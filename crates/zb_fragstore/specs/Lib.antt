@@ -1,0 +1,9 @@
+pub mod Seen
+pub mod Answers
+pub mod Refusing
+pub mod Changing
+pub mod Appending
+pub mod Ranges
+pub mod Opening
+pub mod Reading
+pub mod Taking

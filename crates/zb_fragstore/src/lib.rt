@@ -1,0 +1,17 @@
+//! The fragment store of a server: a map from names to fragments, with a fence, that changes whole or not at all at each
+//! moment, whatever a crash leaves of its platter.
+#![tactic(auto)]
+
+mod append;
+mod change;
+mod faults;
+mod open;
+mod parity;
+mod read;
+mod slots;
+mod store;
+#[cfg(test)]
+mod tests;
+
+pub use faults::OpenFault;
+pub use store::FragStore;

@@ -1,0 +1,92 @@
+ghost use Rattle.std.specs.Prelude.{◌≡◌, ◌≢◌, ℕ, take, true, false, IsTrue, IfOk, IfErr};
+ghost use Rattle.zb_types.specs.declared.requests.Response.TheVariants as told;
+ghost use Rattle.zb_fragstore.specs.Seen.{IsStoreOf};
+ghost use Rattle.zb_fragstore.specs.Answers.{HasStopped};
+ghost use Rattle.zb_fragstore.specs.Changing.{IsOpen, HasCause};
+ghost use Rattle.zb_server.specs.Asking.{FitsSystem};
+ghost use Rattle.zb_index.specs.Seen.{names_above, most_names};
+ghost use Rattle.zb_server.specs.Answering.{done, said, Answers};
+
+use std::alloc::Global;
+use zb_fragstore::FragStore;
+use zb_outside::Bay;
+use zb_types::{FragId, Request, Response, StoreFault};
+
+// The names above this one, as an answer.
+fn identify(store: &FragStore, alloc: Global, after: Option<FragId>) -> Result<Response, StoreFault>
+    ensures ids { IfOk result (λ response. response ≡ told.Ids (take most_names (names_above after store.now.index))) }
+    ensures fault { IfErr result (λ fault. fault ≡ StoreFault.NoMemory) }
+{
+    match store.identify(alloc, after) {
+        Ok(ids) => Ok(Response::Ids(ids)),
+        Err(_) => Err(StoreFault::NoMemory),
+    }
+}
+
+// What a call that gives nothing answers.
+fn done(outcome: Result<(), StoreFault>) -> Result<Response, StoreFault>
+    ensures { result ≡ done outcome }
+{
+    outcome?;
+    Ok(Response::Done)
+}
+
+// Whether the platter stopped.
+pub fn has_stopped(answered: &Result<Response, StoreFault>) -> bool
+    ensures stopped { result ≡ true → HasStopped answered.now }
+    ensures others { result ≡ false → HasStopped answered.now → ⊥ }
+{
+    matches!(answered, Err(StoreFault::Stopped))
+}
+
+// What a node answers by what its store did.
+pub fn said(answered: Result<Response, StoreFault>) -> Response
+    ensures { result ≡ said answered }
+{
+    match answered {
+        Ok(response) => response,
+        Err(fault) => Response::Refused(fault),
+    }
+}
+
+// What a store answers to a request of this generation.
+pub fn answer<B: Bay>(
+    store: &mut FragStore,
+    alloc: Global,
+    bay: &mut B,
+    generation: u64,
+    request: &Request,
+) -> Result<Response, StoreFault>
+    requires { FitsSystem store.old.geo request.now }
+    ensures told { IsTrue B.tells → IsOpen store.old (B.meaning bay.old).now
+        → Answers store.old generation request.now store.new result (B.meaning bay.old) (B.meaning bay.new) }
+    ensures system { IsStoreOf store.old.geo store.old.server store.new }
+    ensures cause { HasCause store.old.server.0 result (B.faults bay.old) (B.faults bay.new) }
+    ensures writes { (q : ℕ) → q ≢ store.old.server.0 → B.writes bay.new q ≡ B.writes bay.old q }
+    ensures streams { B.streams bay.new ≡ B.streams bay.old }
+    ensures follows { B.follows bay.old bay.new }
+{
+    match request {
+        Request::Store { id, bytes, class } => {
+            done(store.store(alloc, bay, *id, bytes.slice(), *class, generation))
+        }
+        Request::Append { id, place, bytes } => {
+            done(store.append(bay, *id, *place, bytes.slice(), generation))
+        }
+        Request::Parity {
+            id,
+            lengths,
+            bytes,
+            class,
+        } => {
+            let (lengths, bytes) = (lengths.slice(), bytes.slice());
+            done(store.replace_parity(alloc, bay, *id, lengths, bytes, *class, generation))
+        }
+        Request::Retrieve { id, place, len } => {
+            store.retrieve(alloc, bay, *id, *place, *len, generation)
+        }
+        Request::Delete { id } => done(store.delete(bay, *id)),
+        Request::Identify { after } => identify(store, alloc, *after),
+        Request::Fence { generation } => done(store.fence(bay, *generation)),
+    }
+}

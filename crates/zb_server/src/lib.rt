@@ -1,0 +1,9 @@
+//! A storage server: a node that is up with its fragment store, down, or blank.
+#![tactic(auto)]
+
+mod answers;
+mod server;
+#[cfg(test)]
+mod tests;
+
+pub use server::Server;

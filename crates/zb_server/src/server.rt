@@ -1,0 +1,142 @@
+ghost use Rattle.std.specs.Prelude.{◌≡◌, ◌≢◌, ◌⊎◌, ℕ, Bool, IsTrue, IfOk};
+ghost use Rattle.zb_types.specs.declared.geometry.Geometry.{Geometry as SeenGeometry};
+ghost use Rattle.zb_types.specs.declared.ids.ServerId.{ServerId as SeenServerId};
+ghost use Rattle.zb_fragstore.specs.Seen.{SeenStore, IsStoreOf};
+ghost use Rattle.zb_fragstore.specs.Changing.{IsOpen};
+ghost use Rattle.zb_fragstore.specs.Opening.{HasCause as OpenCause};
+ghost use Rattle.zb_server.specs.Serving.{MayServe, IsNodeOf, IsAway, crashed, WentDown, StaysUp, Serves, HasCause, is_serving};
+ghost use Rattle.zb_server.specs.Rising.{away, Leaves, Reopens, Rises, AreLarge};
+
+use crate::answers::{answer, has_stopped, said};
+use std::alloc::Global;
+use zb_fragstore::{FragStore, OpenFault};
+use zb_outside::Bay;
+use zb_types::{Geometry, Request, Response, ServerId};
+
+/// A storage server's node.
+#[derive(Drop)]
+pub enum Server {
+    /// It is up with its store. While it is being mended it takes requests, and isn't read from.
+    Up { store: FragStore, mending: bool },
+    Down,
+    /// Its platter is no store of this server.
+    Blank,
+}
+
+// Restarts the platter of a server, and opens the store on it.
+fn reopened<B: Bay>(
+    alloc: Global,
+    bay: &mut B,
+    geo: &Geometry,
+    server: ServerId,
+) -> Result<FragStore, OpenFault>
+    ensures is { IfOk result (IsStoreOf geo.now server) }
+    ensures told { IsTrue B.tells → AreLarge geo.now server (B.meaning bay.old)
+        → Reopens geo.now server result (B.meaning bay.old) (B.meaning bay.new) }
+    ensures cause { OpenCause server.0 result (B.faults bay.old) (B.faults bay.new) }
+    ensures writes { (q : ℕ) → q ≢ server.0 → B.writes bay.new q ≡ B.writes bay.old q }
+    ensures streams { B.streams bay.new ≡ B.streams bay.old }
+    ensures follows { B.follows bay.old bay.new }
+{
+    bay.restart(usize::from(server.0))?;
+    FragStore::open(alloc, bay, geo, server)
+}
+
+// A node whose store isn't opened.
+fn away_after(fault: OpenFault) -> Server
+    ensures { result ≡ away fault }
+{
+    match fault {
+        OpenFault::Blank => Server::Blank,
+        _ => Server::Down,
+    }
+}
+
+impl Server {
+    /// Answers a request that is made in this generation: `Down` or `Blank` exactly where the node is so, and else what
+    /// its store answers. A store whose platter stopped makes the node down, and the answer is `Down` then.
+    pub fn serve<B: Bay>(
+        &mut self,
+        alloc: Global,
+        bay: &mut B,
+        generation: u64,
+        request: &Request,
+    ) -> Response
+        requires fits { MayServe self.old request.now }
+        ensures up { (store : SeenStore) (mending : Bool) → self.old ≡ Server.Up store mending
+            → WentDown self.new result ⊎ StaysUp mending self.new }
+        ensures system { (geo : SeenGeometry) (server : SeenServerId) → IsNodeOf geo server self.old → IsNodeOf geo server self.new }
+        ensures told { (store : SeenStore) (mending : Bool) → self.old ≡ Server.Up store mending
+            → IsTrue B.tells → IsOpen store (B.meaning bay.old).now
+            → Serves store mending generation request.now self.new result (B.meaning bay.old) (B.meaning bay.new) }
+        ensures down { self.old ≡ Server.Down → result ≡ Response.Down }
+        ensures blank { self.old ≡ Server.Blank → result ≡ Response.Blank }
+        ensures same { IsAway self.old → self.new ≡ self.old }
+        ensures still { IsAway self.old → bay.new ≡ bay.old }
+        ensures cause { (store : SeenStore) (mending : Bool) → self.old ≡ Server.Up store mending
+            → HasCause store.server.0 self.new (B.faults bay.old) (B.faults bay.new) }
+        ensures writes { (store : SeenStore) (mending : Bool) → self.old ≡ Server.Up store mending
+            → (q : ℕ) → q ≢ store.server.0 → B.writes bay.new q ≡ B.writes bay.old q }
+        ensures streams { B.streams bay.new ≡ B.streams bay.old }
+        ensures follows { B.follows bay.old bay.new }
+    {
+        let answered = match self {
+            Server::Up { store, .. } => answer(store, alloc, bay, generation, request),
+            Server::Down => return Response::Down,
+            Server::Blank => return Response::Blank,
+        };
+        if has_stopped(&answered) {
+            self.crash();
+            return Response::Down;
+        }
+        said(answered)
+    }
+
+    /// Makes a node that is up down, and leaves any other as it is.
+    pub fn crash(&mut self)
+        ensures { self.new ≡ crashed self.old }
+    {
+        if matches!(self, Server::Up { .. }) {
+            *self = Server::Down;
+        }
+    }
+
+    /// Restarts the platter and opens its store. Where that isn't possible the node is blank after `Blank`, and down
+    /// after any other fault.
+    pub fn up<B: Bay>(
+        &mut self,
+        alloc: Global,
+        bay: &mut B,
+        geo: &Geometry,
+        server: ServerId,
+    ) -> Result<(), OpenFault>
+        ensures leaves { Leaves geo.now server result self.new }
+        ensures told { IsTrue B.tells → AreLarge geo.now server (B.meaning bay.old)
+            → Rises geo.now server result self.new (B.meaning bay.old) (B.meaning bay.new) }
+        ensures cause { OpenCause server.0 result (B.faults bay.old) (B.faults bay.new) }
+        ensures writes { (q : ℕ) → q ≢ server.0 → B.writes bay.new q ≡ B.writes bay.old q }
+        ensures streams { B.streams bay.new ≡ B.streams bay.old }
+        ensures follows { B.follows bay.old bay.new }
+    {
+        match reopened(alloc, bay, geo, server) {
+            Ok(store) => {
+                *self = Server::Up {
+                    store,
+                    mending: false,
+                };
+                Ok(())
+            }
+            Err(fault) => {
+                *self = away_after(fault);
+                Err(fault)
+            }
+        }
+    }
+
+    /// Whether it answers requests of those who read: it is up, and isn't being mended.
+    pub fn serving(&self) -> bool
+        ensures { result ≡ is_serving self.now }
+    {
+        matches!(self, Server::Up { mending: false, .. })
+    }
+}

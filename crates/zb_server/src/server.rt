@@ -55,6 +55,9 @@ fn away_after(fault: OpenFault) -> Server
 impl Server {
     /// Answers a request that is made in this generation: `Down` or `Blank` exactly where the node is so, and else what
     /// its store answers. A store whose platter stopped makes the node down, and the answer is `Down` then.
+    ///
+    /// What a node that is up is asked fits its system: a share goes to an index below the last and a parity to the last,
+    /// and all bytes lie within a fragment.
     pub fn serve<B: Bay>(
         &mut self,
         alloc: Global,

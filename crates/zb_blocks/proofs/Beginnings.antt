@@ -5,7 +5,7 @@ use Rattle.std.proofs.lemmas.Bool.{cases_eq, cases_lt, eq-eqb, ne_eqb}
 use Rattle.std.proofs.Math.Nat.{mul-le-mul_right}
 use Rattle.std.proofs.lemmas.List.{take_all}
 use Rattle.std.proofs.lemmas.List.Elements.{recursion_from_All, All-from_recursion}
-use Rattle.zb_stripes.specs.Holding.{StripeHolds}
+use Rattle.zb_holding.specs.Holding.{StripeHolds}
 use Rattle.zb_stripe.specs.declared.flush.Part.{Part}
 use Rattle.zb_stripe.specs.Writing.{IsWritable}
 use Rattle.zb_stripe_laws.specs.PartAtWork.{StandsUpTo, IsUnwritten, MayBegin}

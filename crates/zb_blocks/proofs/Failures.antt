@@ -3,7 +3,7 @@ use Rattle.std.proofs.Common.{◌≡◌, ℕ, ◌+◌, ◌<◌, List, [], ◌∷
 use Rattle.std.specs.Prelude.{slice_index}
 use Rattle.std.proofs.lemmas.Bool.{cases_lt}
 use Rattle.zb_types.specs.declared.ids.Ptr.{Ptr}
-use Rattle.zb_stripes.specs.Holding.{StripeHolds}
+use Rattle.zb_holding.specs.Holding.{StripeHolds}
 use Rattle.zb_stripe.specs.declared.flush.Part.{Part}
 use Rattle.zb_stripe.specs.declared.flush.Flush.{Flush}
 use Rattle.zb_stripe_laws.specs.PartAtWork.{AreElsewhere}

@@ -2,10 +2,10 @@
 use Rattle.std.proofs.Common.{◌≡◌, ℕ, zero, suc, ◌+◌, ◌*◌, ◌<◌, ◌≤◌, false, List, [], ◌++◌, length, take, drop, Option, Some, None, refl, sym, ap, ◌∙◌, arith}
 use Rattle.std.specs.List.{range_with_len, flat_map}
 use Rattle.std.proofs.lemmas.List.{take-take, drop-drop, take_all, take-append-drop, length-take-le, drop-take}
-use Rattle.zb_stripes.specs.Fragments.{Fragment, share_fragment, parity_fragment}
-use Rattle.zb_stripes.specs.Placing.{share_length, share_of}
-use Rattle.zb_stripes.specs.Holding.{share_bytes, Begins, ViewHolds}
-use Rattle.zb_stripes.proofs.Shares.{share_of-take}
+use Rattle.zb_holding.specs.Fragments.{Fragment, share_fragment, parity_fragment}
+use Rattle.zb_holding.specs.Placing.{share_length, share_of}
+use Rattle.zb_holding.specs.Holding.{share_bytes, Begins, ViewHolds}
+use Rattle.zb_holding.proofs.Shares.{share_of-take}
 
 -- the first bytes, and those behind them
 pub take_both : (a b : ℕ) (xs : List ℕ) → take (a + b) xs ≡ take a xs ++ take b (drop a xs)

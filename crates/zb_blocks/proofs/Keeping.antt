@@ -5,8 +5,8 @@ use Rattle.zb_types.specs.declared.ids.LogId.{LogId}
 use Rattle.zb_types.specs.declared.nodes.Class.TheVariants.{Client}
 use Rattle.zb_types.specs.declared.ids.ServerId.{ServerId}
 use Rattle.zb_types.specs.declared.requests.Request.{Request}
-use Rattle.zb_stripes.specs.Holding.{Maps, StripeHolds, standing, away_at}
-use Rattle.zb_stripes.specs.Carrying.{carried_all}
+use Rattle.zb_holding.specs.Holding.{Maps, StripeHolds, standing, away_at}
+use Rattle.zb_holding.specs.Carrying.{carried_all}
 use Rattle.zb_stripe.specs.declared.flush.Part.{Part}
 use Rattle.zb_stripe.specs.declared.flush.Flush.{Flush}
 use Rattle.zb_stripe.specs.Writing.{plan_requests, IsWritable}

@@ -4,10 +4,10 @@ use Rattle.std.specs.List.{range_with_len, flat_map}
 use Rattle.std.proofs.lemmas.List.{length-take, take-take, drop-take}
 use Rattle.zb_types.specs.declared.ids.LogId.{LogId}
 use Rattle.zb_types.specs.declared.ids.Ptr.{Ptr}
-use Rattle.zb_stripes.specs.Fragments.{Fragment, share_fragment, parity_fragment}
-use Rattle.zb_stripes.specs.Placing.{share_length, share_of}
-use Rattle.zb_stripes.specs.Holding.{Maps, share_bytes, Begins, StripeHolds, standing, away_at}
-use Rattle.zb_stripes.proofs.Shares.{length-share_of}
+use Rattle.zb_holding.specs.Fragments.{Fragment, share_fragment, parity_fragment}
+use Rattle.zb_holding.specs.Placing.{share_length, share_of}
+use Rattle.zb_holding.specs.Holding.{Maps, share_bytes, Begins, StripeHolds, standing, away_at}
+use Rattle.zb_holding.proofs.Shares.{length-share_of}
 use Rattle.zb_stripe.specs.declared.read.Got.{Got}
 use Rattle.zb_stripe.specs.declared.read.Got.TheVariants as got
 use Rattle.zb_stripe_laws.specs.PartAtWork.{HasBytes, StandsUpTo}

@@ -4,8 +4,8 @@ use Rattle.std.specs.List.{range_with_len, flat_map}
 use Rattle.zb_types.specs.declared.ids.LogId.{LogId}
 use Rattle.zb_types.specs.declared.ids.ServerId.{ServerId}
 use Rattle.zb_types.specs.declared.ids.Ptr.{Ptr}
-use Rattle.zb_stripes.specs.Placing.{share_length}
-use Rattle.zb_stripes.specs.Holding.{share_bytes, standing, StripeHolds, AreBytesOfStripe}
+use Rattle.zb_holding.specs.Placing.{share_length}
+use Rattle.zb_holding.specs.Holding.{share_bytes, standing, StripeHolds, AreBytesOfStripe}
 use Rattle.zb_stripe_laws.specs.PartAtWork.{IsUnwritten}
 use Rattle.zb_log.specs.Logs.{SeenLog, laid_next}
 use Rattle.zb_plain.specs.Standing.{Entries, maps_of}

@@ -1,5 +1,5 @@
 ghost use Rattle.std.specs.Prelude.{◌≡◌, ℕ, ◌^◌, ◌<◌, ◌≤◌, None, All, IfOk, OnOk, OnErr, length, map, slice_index};
-ghost use Rattle.zb_stripes.specs.Carrying.{carried_all};
+ghost use Rattle.zb_holding.specs.Carrying.{carried_all};
 ghost use Rattle.zb_stripe.specs.Writing.{plan_requests, IsWritable};
 ghost use Rattle.zb_stripe_laws.specs.PartAtWork.{MayBegin, StripesDiffer};
 ghost use Rattle.zb_log.specs.Placing.{last_stripe, AreBlocks};

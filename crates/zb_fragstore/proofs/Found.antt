@@ -5,7 +5,7 @@ use Rattle.zb_outside.specs.Meaning.{Standing}
 use Rattle.zb_cell.specs.Cell.{value_of, bytes_at, window}
 use Rattle.zb_types.specs.declared.geometry.Geometry.{Geometry}
 use Rattle.zb_types.specs.declared.ids.FragId.{FragId}
-use Rattle.zb_stripes.specs.Fragments.{share_fragment, parity_fragment}
+use Rattle.zb_holding.specs.Fragments.{share_fragment, parity_fragment}
 use Rattle.zb_slots.specs.declared.header.Header.{Header}
 use Rattle.zb_slots.specs.declared.header.Header.TheVariants.{Free, Share, Parity}
 use Rattle.zb_slots.specs.Slots.{Stored, full_slot, shown, header_in, numbers_at, slot_place}

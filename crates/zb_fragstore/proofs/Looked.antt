@@ -8,7 +8,7 @@ use Rattle.zb_types.specs.declared.ids.FragId.{FragId}
 use Rattle.zb_types.specs.declared.requests.Request.{Request}
 use Rattle.zb_types.specs.declared.requests.StoreFault.{StoreFault}
 use Rattle.zb_types.specs.declared.requests.StoreFault.TheVariants.{Stopped}
-use Rattle.zb_stripes.specs.Fragments.{Fragment}
+use Rattle.zb_holding.specs.Fragments.{Fragment}
 use Rattle.zb_index.specs.Indexed.{IsIndexOf}
 use Rattle.zb_platter.specs.Tidy.{slots_in, map_of, IsTidy}
 use Rattle.zb_platter.specs.Changing.{FormerOrNext}

@@ -4,8 +4,8 @@ use Rattle.zb_types.specs.declared.ids.FragId.{FragId}
 use Rattle.zb_types.specs.declared.nodes.Class.{Class}
 use Rattle.zb_types.specs.declared.requests.Request.{Request}
 use Rattle.zb_types.specs.declared.requests.Request.TheVariants as ask
-use Rattle.zb_stripes.specs.Fragments.{Fragment, share_fragment, parity_fragment}
-use Rattle.zb_stripes.specs.Carrying.{same_frag, stands_after, appended}
+use Rattle.zb_holding.specs.Fragments.{Fragment, share_fragment, parity_fragment}
+use Rattle.zb_holding.specs.Carrying.{same_frag, stands_after, appended}
 use Rattle.zb_platter.specs.Tidy.{put}
 use Rattle.zb_platter.proofs.Names.{one_name}
 use Rattle.zb_fragstore.specs.Changing.{map_after}

@@ -6,7 +6,7 @@ use Rattle.zb_types.specs.declared.geometry.Geometry.{Geometry}
 use Rattle.zb_types.specs.declared.ids.FragId.{FragId}
 use Rattle.zb_types.specs.declared.requests.Request.{Request}
 use Rattle.zb_types.specs.declared.requests.StoreFault.{StoreFault}
-use Rattle.zb_stripes.specs.Fragments.{Fragment}
+use Rattle.zb_holding.specs.Fragments.{Fragment}
 use Rattle.zb_platter.specs.Changing.{IsKept, FormerOrNext}
 use Rattle.zb_platter.specs.Super.{super_text, FormerOrFenced}
 use Rattle.zb_platter.proofs.Changes.{tidy_sound}

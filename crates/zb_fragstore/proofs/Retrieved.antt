@@ -7,8 +7,8 @@ use Rattle.zb_types.specs.declared.geometry.Geometry.{Geometry}
 use Rattle.zb_types.specs.declared.ids.FragId.{FragId}
 use Rattle.zb_types.specs.declared.requests.Response.TheVariants.{Bytes, Parity, Refused}
 use Rattle.zb_types.specs.declared.requests.StoreFault.TheVariants.{Short}
-use Rattle.zb_stripes.specs.Fragments.{Fragment}
-use Rattle.zb_stripes.specs.Carrying.{found}
+use Rattle.zb_holding.specs.Fragments.{Fragment}
+use Rattle.zb_holding.specs.Carrying.{found}
 use Rattle.zb_slots.specs.Slots.{Slot}
 use Rattle.zb_slot.specs.Changing.{share_slot, parity_slot}
 use Rattle.zb_index.specs.declared.spot.Spot.{Spot}

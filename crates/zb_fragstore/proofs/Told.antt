@@ -9,7 +9,7 @@ use Rattle.zb_types.specs.declared.ids.FragId.{FragId}
 use Rattle.zb_types.specs.declared.nodes.Class.{Class}
 use Rattle.zb_types.specs.declared.requests.Request.TheVariants as ask
 use Rattle.zb_types.specs.declared.requests.StoreFault.{StoreFault}
-use Rattle.zb_stripes.specs.Fragments.{Fragment, share_fragment, parity_fragment}
+use Rattle.zb_holding.specs.Fragments.{Fragment, share_fragment, parity_fragment}
 use Rattle.zb_slots.specs.Slots.{Stored, free_slot, full_slot}
 use Rattle.zb_slot.specs.Area.{IsArea, lengths_in}
 use Rattle.zb_slot.specs.Changing.{share_slot, parity_slot}

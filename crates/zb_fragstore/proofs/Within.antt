@@ -4,7 +4,7 @@ use Rattle.std.proofs.lemmas.Bool.{cases_eq}
 use Rattle.zb_cell.specs.Cell.{following}
 use Rattle.zb_types.specs.declared.geometry.Geometry.{Geometry}
 use Rattle.zb_types.specs.declared.ids.FragId.{FragId}
-use Rattle.zb_stripes.specs.Carrying.{same_frag}
+use Rattle.zb_holding.specs.Carrying.{same_frag}
 use Rattle.zb_index.specs.declared.spot.Spot.{Spot}
 use Rattle.zb_index.specs.Free.{times, IsTaken, IsGiven, IsExchanged}
 use Rattle.zb_index.proofs.Counting.{once_other}

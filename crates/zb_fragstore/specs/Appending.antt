@@ -3,7 +3,7 @@ use Rattle.std.specs.Prelude.{◌≡◌, ◌≢◌, ◌⊎◌, ℕ, ◌+◌, ◌
 use Rattle.zb_types.specs.declared.ids.FragId.{FragId}
 use Rattle.zb_types.specs.declared.requests.StoreFault.{StoreFault}
 use Rattle.zb_types.specs.declared.requests.StoreFault.TheVariants.{Stopped, Offset}
-use Rattle.zb_stripes.specs.Fragments.{Fragment, share_fragment, parity_fragment}
+use Rattle.zb_holding.specs.Fragments.{Fragment, share_fragment, parity_fragment}
 use Rattle.zb_slot_read.specs.Standing.{stand_at}
 use Rattle.zb_fragstore.specs.Seen.{SeenStore, length_of, ChangesLength}
 use Rattle.zb_fragstore.specs.Answers.{HasStopped}

@@ -8,8 +8,8 @@ use Rattle.zb_types.specs.declared.ids.FragId.{FragId}
 use Rattle.zb_types.specs.declared.requests.Request.{Request}
 use Rattle.zb_types.specs.declared.requests.StoreFault.{StoreFault}
 use Rattle.zb_types.specs.declared.requests.StoreFault.TheVariants.{Stopped}
-use Rattle.zb_stripes.specs.Fragments.{Fragment}
-use Rattle.zb_stripes.specs.Carrying.{is_about, stands_after}
+use Rattle.zb_holding.specs.Fragments.{Fragment}
+use Rattle.zb_holding.specs.Carrying.{is_about, stands_after}
 use Rattle.zb_index.specs.Indexed.{IsIndexOf}
 use Rattle.zb_platter.specs.Tidy.{slots_in, map_of}
 use Rattle.zb_platter.specs.Changing.{IsKept, FormerOrNext}

@@ -1,6 +1,6 @@
 ghost use Rattle.std.specs.Prelude.{◌≡◌, ◌≢◌, ◌⊎◌, ◌≤◌, ◌+◌, ℕ, Some, None, length, true, IsTrue, IfErr, OnOk, Err};
 ghost use Rattle.zb_types.specs.declared.requests.Request.TheVariants as ask;
-ghost use Rattle.zb_stripes.specs.Fragments.{Fragment};
+ghost use Rattle.zb_holding.specs.Fragments.{Fragment};
 ghost use Rattle.zb_index.specs.Seen.{spot_of};
 ghost use Rattle.zb_fragstore.specs.Seen.{free_of, IsStoreOf, ChangesLength};
 ghost use Rattle.zb_fragstore.specs.Refusing.{refusal_to_find, is_share};

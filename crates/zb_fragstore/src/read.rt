@@ -1,6 +1,6 @@
 ghost use Rattle.std.specs.Prelude.{◌≡◌, ◌≤◌, ◌<◌, ◌+◌, ℕ, Some, None, take, false, IsTrue, IfOk, IfErr, Err, ◌⊎◌};
 ghost use Rattle.zb_slot_read.specs.Reading.{LeftAlone};
-ghost use Rattle.zb_stripes.specs.Carrying.{found};
+ghost use Rattle.zb_holding.specs.Carrying.{found};
 ghost use Rattle.zb_index.specs.Seen.{spot_of, most_names, names_above};
 ghost use Rattle.zb_fragstore.specs.Answers.{IsUnforeseen};
 ghost use Rattle.zb_fragstore.specs.Reading.{or_unread};

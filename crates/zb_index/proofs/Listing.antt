@@ -12,7 +12,7 @@ use Rattle.std.specs.Ordering.{is_lt}
 use Rattle.std.proofs.lemmas.List.{take_all, take-append-le}
 use Rattle.zb_types.specs.declared.ids.FragId.{FragId}
 use Rattle.zb_types.specs.Order.{frag_cmp}
-use Rattle.zb_stripes.specs.Carrying.{same_frag}
+use Rattle.zb_holding.specs.Carrying.{same_frag}
 use Rattle.zb_index.specs.Laws.{ListsWhatIsHeld}
 use Rattle.zb_index.specs.Seen.{Entries, IsInOrder, start_above, is_above}
 use Rattle.zb_index.proofs.Naming.{same_frag-is}

@@ -6,7 +6,7 @@ use Rattle.std.proofs.lemmas.Bool.{cases_Bool, cases_eq, cases_lt, cases_order, 
 use Rattle.std.proofs.lemmas.Option.{none-some, slice_get-get_or}
 use Rattle.zb_cell.specs.Cell.{following}
 use Rattle.zb_types.specs.declared.ids.FragId.{FragId}
-use Rattle.zb_stripes.specs.Carrying.{same_frag}
+use Rattle.zb_holding.specs.Carrying.{same_frag}
 use Rattle.zb_slots.specs.Slots.{Slot, Stored, full_slot}
 use Rattle.zb_slots.specs.Holding.{named, newer, held}
 use Rattle.zb_slots.proofs.Held.{one_holds}

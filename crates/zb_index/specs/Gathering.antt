@@ -1,9 +1,9 @@
 -- Which slots hold one name.
 use Rattle.std.specs.Prelude.{◌≡◌, ◌≢◌, ℕ, ◌<◌, Bool, true, false, List, Option, None, Some}
 use Rattle.std.specs.Map.{lookup}
-use Rattle.zb_stripes.specs.Carrying.{same_frag}
+use Rattle.zb_holding.specs.Carrying.{same_frag}
 use Rattle.zb_types.specs.declared.ids.FragId.{FragId}
-use Rattle.zb_stripes.specs.Fragments.{Fragment, share_fragment, parity_fragment}
+use Rattle.zb_holding.specs.Fragments.{Fragment, share_fragment, parity_fragment}
 use Rattle.zb_slots.specs.Slots.{Slot, Stored, free_slot, full_slot}
 use Rattle.zb_slots.specs.Holding.{named, held, IsBad}
 use Rattle.zb_index.specs.declared.holders.Holder.{Holder}

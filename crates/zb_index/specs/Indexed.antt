@@ -1,7 +1,7 @@
 -- When an index is that of some slots.
 use Rattle.std.specs.Prelude.{◌≡◌, ◌≢◌, ℕ, ◌<◌, nat_lt, if◌then◌else◌, length, Option, Some}
 use Rattle.zb_types.specs.declared.ids.FragId.{FragId}
-use Rattle.zb_stripes.specs.Fragments.{Fragment, share_fragment, parity_fragment}
+use Rattle.zb_holding.specs.Fragments.{Fragment, share_fragment, parity_fragment}
 use Rattle.zb_slots.specs.Slots.{Slot, Stored, bad_slot, full_slot}
 use Rattle.zb_slots.specs.Holding.{free_in}
 use Rattle.zb_index.specs.declared.spot.Spot.{Spot}

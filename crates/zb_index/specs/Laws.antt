@@ -2,7 +2,7 @@
 use Rattle.std.specs.Prelude.{◌≡◌, ℕ, ◌<◌, ◌&&◌, length, Option, None, Some, is_some}
 use Rattle.std.specs.List.{list_any}
 use Rattle.zb_types.specs.declared.ids.FragId.{FragId}
-use Rattle.zb_stripes.specs.Carrying.{same_frag}
+use Rattle.zb_holding.specs.Carrying.{same_frag}
 use Rattle.zb_slots.specs.declared.header.Header.{Header}
 use Rattle.zb_slots.specs.Slots.{Slot, Stored, free_slot, full_slot, shown}
 use Rattle.zb_slots.specs.Holding.{named, held, free_count}

@@ -6,7 +6,7 @@ ghost use Rattle.zb_cell.specs.Cell.{following};
 ghost use Rattle.zb_slots.specs.Slots.{Slot, free_slot};
 ghost use Rattle.zb_index.specs.Free.{IsTaken, IsGiven, IsExchanged};
 ghost use Rattle.zb_types.specs.declared.ids.FragId.{FragId};
-ghost use Rattle.zb_stripes.specs.Carrying.{same_frag};
+ghost use Rattle.zb_holding.specs.Carrying.{same_frag};
 ghost use Rattle.zb_index.specs.Seen.{IsInOrder, spot_in, spot_of, start_above, names_above, most_names};
 ghost use Rattle.zb_index.specs.Indexed.{IsIndexOf};
 ghost use Rattle.zb_index.specs.Changes.{IsPut, first_spot, lengthened, next_spot, FollowsFill, FollowsFree, FollowsMove};

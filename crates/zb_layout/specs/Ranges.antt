@@ -1,7 +1,7 @@
 -- The ranges of shares in which the bytes of a pointer lie.
 use Rattle.std.specs.Prelude.{◌≡◌, ℕ, ◌+◌, ◌-◌, ◌*◌, ◌/◌, ◌%◌, ◌<◌, ◌≤◌, min, max, List, map, take, drop, if◌then◌else◌, ◌==◌}
 use Rattle.std.specs.List.{range_with_len, flat_map}
-use Rattle.zb_stripes.specs.Placing.{share_of}
+use Rattle.zb_holding.specs.Placing.{share_of}
 use Rattle.zb_layout.specs.declared.ranges.Span.{Span}
 
 -- where the bytes from an offset on begin that lie in share k

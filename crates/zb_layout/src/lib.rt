@@ -4,7 +4,7 @@
 mod ranges;
 
 ghost use Rattle.std.specs.Prelude.{◌≡◌, ◌+◌, ◌-◌, ◌*◌, ◌≤◌, All};
-ghost use Rattle.zb_stripes.specs.Placing.{share_length, server_of};
+ghost use Rattle.zb_holding.specs.Placing.{share_length, server_of};
 ghost use Rattle.zb_layout.specs.Ranges.{spans_of, Covers, LiesWithin};
 
 pub use ranges::{Span, Spans};

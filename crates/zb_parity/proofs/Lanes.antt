@@ -2,7 +2,7 @@
 use Rattle.std.proofs.Common.{◌≡◌, ℕ, zero, suc, ◌+◌, ◌≤◌, ◌<◌, List, [], ◌∷◌, length, take, get_or, set, refl, ap, subst, arith}
 use Rattle.std.specs.Prelude.{bit_xor}
 use lib.Lanes.{zip2, chunk, put_chunk}
-use Rattle.zb_stripes.specs.Exclusive.{xored}
+use Rattle.zb_holding.specs.Exclusive.{xored}
 
 module _ (f : ℕ → ℕ → ℕ) (is : (a b : ℕ) → f a b ≡ bit_xor a b) where
   front : (n : ℕ) (xs ys : List ℕ) → n ≤ length ys → length ys ≤ length xs → put_chunk 0 xs (zip2 f (take n xs) (take n ys)) ≡ xored xs (take n ys)

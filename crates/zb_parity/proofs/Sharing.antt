@@ -4,8 +4,8 @@ use Rattle.std.specs.Prelude.{replicate}
 use Rattle.std.specs.Int.Bits.{xor_zero_l, xor_assoc}
 use Rattle.std.proofs.lemmas.Bool.{cases_lt}
 use Rattle.std.proofs.lemmas.List.{map_more, get_or-map, get_or_read, get_or-take, get_or_past, get_or-replicate, length-replicate, length-take}
-use Rattle.zb_stripes.specs.Exclusive.{xor_at, list_at, greatest}
-use Rattle.zb_stripes.proofs.Exclusives.{xor_more, xor_past, xor_all, xor_others, greatest_push, le_greatest}
+use Rattle.zb_holding.specs.Exclusive.{xor_at, list_at, greatest}
+use Rattle.zb_holding.proofs.Exclusives.{xor_more, xor_past, xor_all, xor_others, greatest_push, le_greatest}
 use Rattle.zb_parity.specs.Rebuilding.{Rebuilds, Restores}
 
 -- one more length

@@ -1,6 +1,6 @@
 -- A share that is rebuilt.
 use Rattle.std.specs.Prelude.{◌≡◌, ℕ, ◌<◌, List, ◌∷◌, ◌++◌, length, slice_index, bit_xor}
-use Rattle.zb_stripes.specs.Exclusive.{xor_at, list_at, IsXorOf}
+use Rattle.zb_holding.specs.Exclusive.{xor_at, list_at, IsXorOf}
 
 -- each of its bytes is the exclusive or of that byte of the parity and of the other shares
 abbrev pub Rebuilds : List ℕ → List (List ℕ) → List ℕ → Type 0

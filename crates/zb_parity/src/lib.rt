@@ -2,7 +2,7 @@
 #![tactic(auto)]
 
 ghost use Rattle.std.specs.Prelude.{◌≡◌, ℕ, ◌+◌, ◌<◌, ◌≤◌, IfOk, length, map, slice_index, bit_xor};
-ghost use Rattle.zb_stripes.specs.Exclusive.{xored, xor_at, list_at, greatest, IsXorOf};
+ghost use Rattle.zb_holding.specs.Exclusive.{xored, xor_at, list_at, greatest, IsXorOf};
 ghost use Rattle.zb_parity.specs.Rebuilding.{Rebuilds, Restores};
 
 use std::alloc::Global;

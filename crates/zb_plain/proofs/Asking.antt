@@ -11,8 +11,8 @@ use Rattle.zb_types.specs.declared.ids.FragId.{FragId}
 use Rattle.zb_types.specs.declared.nodes.Class.{Class}
 use Rattle.zb_types.specs.declared.requests.Request.{Request}
 use Rattle.zb_types.specs.declared.requests.Request.TheVariants as ask
-use Rattle.zb_stripes.specs.Exclusive.{xor_at, greatest}
-use Rattle.zb_stripes.specs.Placing.{share_length, share_of, frag_id, server_of}
+use Rattle.zb_holding.specs.Exclusive.{xor_at, greatest}
+use Rattle.zb_holding.specs.Placing.{share_length, share_of, frag_id, server_of}
 use Rattle.zb_stripe.specs.declared.flush.Part.{Part}
 use Rattle.zb_stripe.specs.declared.flush.Flush.{Flush}
 use Rattle.zb_stripe.specs.Writing.{grow, new_bytes, lengths_of, parity_bytes, plan_requests}

@@ -6,8 +6,8 @@ use Rattle.std.proofs.lemmas.Option.{none-some, same_Some}
 use Rattle.zb_types.specs.declared.ids.ServerId.{ServerId}
 use Rattle.zb_types.specs.declared.requests.Request.{Request}
 use Rattle.zb_types.specs.declared.requests.Response.TheVariants as told
-use Rattle.zb_stripes.specs.Holding.{Maps}
-use Rattle.zb_stripes.specs.Carrying.{carried_all}
+use Rattle.zb_holding.specs.Holding.{Maps}
+use Rattle.zb_holding.specs.Carrying.{carried_all}
 use Rattle.zb_stripe.specs.Feeding.{left_after}
 use Rattle.zb_stripe_laws.proofs.Carrying.{carried-append}
 use Rattle.zb_plain.specs.Standing.{Entries, maps_of}

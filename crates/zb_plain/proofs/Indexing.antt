@@ -9,10 +9,10 @@ use Rattle.zb_types.specs.declared.ids.FragId.{FragId}
 use Rattle.zb_types.specs.declared.nodes.Class.{Class}
 use Rattle.zb_types.specs.declared.requests.Request.{Request}
 use Rattle.zb_types.specs.declared.requests.Request.TheVariants as ask
-use Rattle.zb_stripes.specs.Fragments.{Fragment, share_fragment, parity_fragment}
-use Rattle.zb_stripes.specs.Placing.{share_length, frag_id}
-use Rattle.zb_stripes.specs.Holding.{Maps}
-use Rattle.zb_stripes.specs.Carrying.{stands_after, is_about, carried, carried_all}
+use Rattle.zb_holding.specs.Fragments.{Fragment, share_fragment, parity_fragment}
+use Rattle.zb_holding.specs.Placing.{share_length, frag_id}
+use Rattle.zb_holding.specs.Holding.{Maps}
+use Rattle.zb_holding.specs.Carrying.{stands_after, is_about, carried, carried_all}
 use Rattle.zb_stripe.specs.declared.flush.Flush.{Flush}
 use Rattle.zb_stripe.specs.Writing.{grow, new_bytes, plan_requests}
 use Rattle.zb_plain.specs.Standing.{Entries, maps_of, stands_in}

@@ -10,8 +10,8 @@ use Rattle.std.proofs.lemmas.Bool.Decides.{nat_tests}
 use Rattle.zb_types.specs.declared.ids.FragId.{FragId}
 use Rattle.zb_types.specs.declared.requests.Request.{Request}
 use Rattle.zb_types.specs.Order.{frag_cmp}
-use Rattle.zb_stripes.specs.Fragments.{Fragment}
-use Rattle.zb_stripes.specs.Carrying.{same_frag, is_about, stands_after}
+use Rattle.zb_holding.specs.Fragments.{Fragment}
+use Rattle.zb_holding.specs.Carrying.{same_frag, is_about, stands_after}
 use Rattle.zb_plain.specs.declared.kept.Kept.{Kept}
 use Rattle.zb_plain.specs.Standing.{Entries, fragment_of, stands_in, IsPut, IsAfter}
 

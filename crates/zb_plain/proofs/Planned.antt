@@ -11,8 +11,8 @@ use Rattle.zb_types.specs.declared.ids.FragId.{FragId}
 use Rattle.zb_types.specs.declared.nodes.Class.{Class}
 use Rattle.zb_types.specs.declared.requests.Request.{Request}
 use Rattle.zb_types.specs.declared.requests.Request.TheVariants as ask
-use Rattle.zb_stripes.specs.Placing.{share_length, frag_id, server_of}
-use Rattle.zb_stripes.specs.Holding.{is_away}
+use Rattle.zb_holding.specs.Placing.{share_length, frag_id, server_of}
+use Rattle.zb_holding.specs.Holding.{is_away}
 use Rattle.zb_stripe.specs.declared.flush.Part.{Part}
 use Rattle.zb_stripe.specs.Writing.{grow, unless_out, new_bytes, share_request, share_requests, lengths_of, parity_bytes, parity_request, part_requests}
 

@@ -10,10 +10,10 @@ use Rattle.zb_types.specs.declared.requests.Request.TheVariants as ask
 use Rattle.zb_types.specs.declared.requests.Response.{Response}
 use Rattle.zb_types.specs.declared.requests.Response.TheVariants as told
 use Rattle.zb_types.specs.declared.requests.StoreFault.TheVariants as fault
-use Rattle.zb_stripes.specs.Fragments.{Fragment, share_fragment, parity_fragment}
-use Rattle.zb_stripes.specs.Placing.{server_of}
-use Rattle.zb_stripes.specs.Holding.{Maps, is_away}
-use Rattle.zb_stripes.specs.Carrying.{found}
+use Rattle.zb_holding.specs.Fragments.{Fragment, share_fragment, parity_fragment}
+use Rattle.zb_holding.specs.Placing.{server_of}
+use Rattle.zb_holding.specs.Holding.{Maps, is_away}
+use Rattle.zb_holding.specs.Carrying.{found}
 use Rattle.zb_stripe.specs.declared.progress.Phase.{Phase}
 use Rattle.zb_stripe.specs.declared.progress.Phase.TheVariants.{Direct, Lengths, Others}
 use Rattle.zb_stripe.specs.Reading.{Reading, pos_of, end_of, index_of, len_of, ask_for, asked, asked_in, fed, answered, is_more, Answers, AnswersRetrieve}

@@ -7,8 +7,8 @@ use Rattle.zb_types.specs.declared.ids.ServerId.{ServerId}
 use Rattle.zb_types.specs.declared.ids.Ptr.{Ptr}
 use Rattle.zb_types.specs.declared.requests.Response.{Response}
 use Rattle.zb_types.specs.declared.requests.Response.TheVariants as told
-use Rattle.zb_stripes.specs.Exclusive.{xored}
-use Rattle.zb_stripes.specs.Holding.{Maps}
+use Rattle.zb_holding.specs.Exclusive.{xored}
+use Rattle.zb_holding.specs.Holding.{Maps}
 use Rattle.zb_stripe.specs.declared.read.Got.{Got}
 use Rattle.zb_stripe.specs.declared.read.Got.TheVariants as got
 use Rattle.zb_stripe.specs.declared.progress.Phase.{Phase}

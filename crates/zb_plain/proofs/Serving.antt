@@ -6,7 +6,7 @@ use Rattle.std.proofs.lemmas.Bool.{cases_eq, eq-eqb, ne_eqb}
 use Rattle.zb_types.specs.declared.ids.ServerId.{ServerId}
 use Rattle.zb_types.specs.declared.ids.FragId.{FragId}
 use Rattle.zb_types.specs.declared.requests.Request.{Request}
-use Rattle.zb_stripes.specs.Carrying.{is_about, stands_after, carried}
+use Rattle.zb_holding.specs.Carrying.{is_about, stands_after, carried}
 use Rattle.zb_plain.specs.Standing.{Entries, stands_in, entries_of, maps_of, IsAfter}
 
 module _ (servers : List Entries) (server : ServerId) (request : Request) (new : Entries) (at : ℕ) (place : server.0 ≡ suc at) where

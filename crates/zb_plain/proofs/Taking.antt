@@ -13,10 +13,10 @@ use Rattle.zb_types.specs.declared.requests.Request.{Request}
 use Rattle.zb_types.specs.declared.requests.Request.TheVariants as ask
 use Rattle.zb_types.specs.declared.requests.Response.TheVariants as told
 use Rattle.zb_types.specs.declared.requests.StoreFault.TheVariants as fault
-use Rattle.zb_stripes.specs.Fragments.{Fragment, share_fragment, parity_fragment}
-use Rattle.zb_stripes.specs.Placing.{share_length, frag_id, server_of}
-use Rattle.zb_stripes.specs.Holding.{Maps, is_away, standing, away_at}
-use Rattle.zb_stripes.specs.Carrying.{carried, carried_all}
+use Rattle.zb_holding.specs.Fragments.{Fragment, share_fragment, parity_fragment}
+use Rattle.zb_holding.specs.Placing.{share_length, frag_id, server_of}
+use Rattle.zb_holding.specs.Holding.{Maps, is_away, standing, away_at}
+use Rattle.zb_holding.specs.Carrying.{carried, carried_all}
 use Rattle.zb_stripe.specs.declared.flush.Part.{Part}
 use Rattle.zb_stripe.specs.declared.flush.Flush.{Flush}
 use Rattle.zb_stripe.specs.Writing.{grow, unless_out, new_bytes, share_request, share_requests, lengths_of, parity_bytes, parity_request, part_requests, plan_requests}

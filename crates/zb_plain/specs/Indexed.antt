@@ -2,8 +2,8 @@
 use Rattle.std.specs.Prelude.{◌≡◌, ◌≢◌, ℕ, ◌-◌, length, Option, Some, None}
 use Rattle.zb_types.specs.declared.ids.ServerId.{ServerId}
 use Rattle.zb_types.specs.declared.ids.FragId.{FragId}
-use Rattle.zb_stripes.specs.Fragments.{Fragment, share_fragment, parity_fragment}
-use Rattle.zb_stripes.specs.Holding.{Maps}
+use Rattle.zb_holding.specs.Fragments.{Fragment, share_fragment, parity_fragment}
+use Rattle.zb_holding.specs.Holding.{Maps}
 
 -- the last index of a stripe among n servers has a parity with the lengths of all shares, each other one a share
 abbrev pub FitsIndex : ℕ → FragId → Option Fragment → Type 0

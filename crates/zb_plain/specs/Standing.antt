@@ -6,9 +6,9 @@ use Rattle.zb_types.specs.declared.ids.ServerId.{ServerId}
 use Rattle.zb_types.specs.declared.ids.FragId.{FragId}
 use Rattle.zb_types.specs.declared.requests.Request.{Request}
 use Rattle.zb_types.specs.Order.{frag_cmp}
-use Rattle.zb_stripes.specs.Fragments.{Fragment, share_fragment, parity_fragment}
-use Rattle.zb_stripes.specs.Holding.{Maps}
-use Rattle.zb_stripes.specs.Carrying.{same_frag, is_about, stands_after}
+use Rattle.zb_holding.specs.Fragments.{Fragment, share_fragment, parity_fragment}
+use Rattle.zb_holding.specs.Holding.{Maps}
+use Rattle.zb_holding.specs.Carrying.{same_frag, is_about, stands_after}
 use Rattle.zb_plain.specs.declared.kept.Kept.{Kept}
 use Rattle.zb_plain.specs.declared.kept.Kept.TheVariants.{Share, Parity}
 

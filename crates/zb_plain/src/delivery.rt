@@ -1,6 +1,6 @@
 ghost use Rattle.std.specs.Prelude.{◌≡◌, ℕ, List, ◌+◌, ◌-◌, ◌*◌, ◌<◌, ◌≤◌, All, length, take, drop, None, IsSome, IsSomeAnd, slice_get, IfOk, OnOk, OnErr};
-ghost use Rattle.zb_stripes.specs.Holding.{StripeHolds};
-ghost use Rattle.zb_stripes.specs.Carrying.{carried_all};
+ghost use Rattle.zb_holding.specs.Holding.{StripeHolds};
+ghost use Rattle.zb_holding.specs.Carrying.{carried_all};
 ghost use Rattle.zb_stripe.specs.Writing.{plan_requests, IsWritable};
 ghost use Rattle.zb_stripe.specs.Reading.{start, asked};
 ghost use Rattle.zb_stripe_laws.specs.PartAtWork.{MayBegin, StripesDiffer};

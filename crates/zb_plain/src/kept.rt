@@ -1,7 +1,7 @@
 ghost use Rattle.std.specs.Prelude.{◌≡◌, ℕ, ◌+◌, ◌^◌, ◌<◌, false, List, IfOk, OnOk, OnErr, length, Some};
 ghost use Rattle.zb_types.specs.declared.ids.FragId.{FragId};
 ghost use Rattle.zb_types.specs.declared.requests.Request.TheVariants as ask;
-ghost use Rattle.zb_stripes.specs.Carrying.{found, stands_after};
+ghost use Rattle.zb_holding.specs.Carrying.{found, stands_after};
 ghost use Rattle.zb_plain.specs.Standing.{fragment_of};
 ghost use Rattle.zb_plain.specs.Answering.{answer_to_append, is_done};
 

@@ -1,7 +1,7 @@
 ghost use Rattle.std.specs.Prelude.{◌≡◌, ◌+◌, ◌^◌, ◌<◌, [], false, IfOk, OnOk, OnErr, length, take};
 ghost use Rattle.zb_types.specs.declared.nodes.Class.{Class};
 ghost use Rattle.zb_types.specs.declared.requests.Request.TheVariants as ask;
-ghost use Rattle.zb_stripes.specs.Carrying.{found};
+ghost use Rattle.zb_holding.specs.Carrying.{found};
 ghost use Rattle.zb_plain.specs.Standing.{stands_in, IsAfter, IsInOrder};
 ghost use Rattle.zb_plain.specs.Answering.{
   answer_to_store,

@@ -1,5 +1,5 @@
 ghost use Rattle.std.specs.Prelude.{◌≡◌, List, [], false, replicate, IfOk, OnOk, OnErr, length};
-ghost use Rattle.zb_stripes.specs.Carrying.{carried};
+ghost use Rattle.zb_holding.specs.Carrying.{carried};
 ghost use Rattle.zb_plain.specs.Standing.{entries_of, maps_of, IsInOrder};
 ghost use Rattle.zb_plain.specs.Answering.{answer_of, is_done, MayAsk};
 

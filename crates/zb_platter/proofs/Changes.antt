@@ -10,8 +10,8 @@ use Rattle.zb_cell.specs.Cell.{bytes_at, value}
 use Rattle.zb_cell.proofs.Values.{value_ext}
 use Rattle.zb_types.specs.declared.geometry.Geometry.{Geometry}
 use Rattle.zb_types.specs.declared.ids.FragId.{FragId}
-use Rattle.zb_stripes.specs.Carrying.{same_frag}
-use Rattle.zb_stripes.specs.Fragments.{Fragment}
+use Rattle.zb_holding.specs.Carrying.{same_frag}
+use Rattle.zb_holding.specs.Fragments.{Fragment}
 use Rattle.zb_slots.specs.Slots.{Slot, Stored, full_slot, slot_place}
 use Rattle.zb_slots.specs.Holding.{named, held, fragment_of, IsBad, Repeats}
 use Rattle.zb_slots.specs.Laws.{SameBut, NoneBut}

@@ -3,8 +3,8 @@ use Rattle.std.proofs.Common.{◌≡◌, ℕ, ◌<◌, Bool, true, false, if◌t
 use Rattle.zb_outside.specs.Meaning.{Meaning, Standing}
 use Rattle.zb_types.specs.declared.geometry.Geometry.{Geometry}
 use Rattle.zb_types.specs.declared.ids.FragId.{FragId}
-use Rattle.zb_stripes.specs.Carrying.{same_frag}
-use Rattle.zb_stripes.specs.Fragments.{Fragment}
+use Rattle.zb_holding.specs.Carrying.{same_frag}
+use Rattle.zb_holding.specs.Fragments.{Fragment}
 use Rattle.zb_slots.specs.Slots.{Slot, Stored, bad_slot, free_slot, full_slot, slot_place, slot_of}
 use Rattle.zb_slots.specs.Holding.{named, held, fragment_of}
 use Rattle.zb_slots.specs.Laws.{NoneBut}

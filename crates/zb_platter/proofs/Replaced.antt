@@ -7,7 +7,7 @@ use Rattle.zb_outside.specs.Runs.{Run}
 use Rattle.zb_outside.proofs.Runs.{weaker_run, then_run}
 use Rattle.zb_types.specs.declared.geometry.Geometry.{Geometry}
 use Rattle.zb_types.specs.declared.ids.FragId.{FragId}
-use Rattle.zb_stripes.specs.Fragments.{Fragment}
+use Rattle.zb_holding.specs.Fragments.{Fragment}
 use Rattle.zb_slots.specs.Slots.{Slot, Stored, free_slot, full_slot, slot_place}
 use Rattle.zb_slot.specs.Changing.{IsReady, FormerOrThis, SlotTold}
 use Rattle.zb_platter.specs.Tidy.{slots_in, map_of, IsLarge, IsSound, put}

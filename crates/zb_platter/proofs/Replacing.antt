@@ -4,8 +4,8 @@ use Rattle.std.proofs.lemmas.Bool.{cases_eq}
 use Rattle.std.proofs.lemmas.Bool.Decides.{nat_tests}
 use Rattle.zb_cell.specs.Cell.{following}
 use Rattle.zb_types.specs.declared.ids.FragId.{FragId}
-use Rattle.zb_stripes.specs.Carrying.{same_frag}
-use Rattle.zb_stripes.specs.Fragments.{Fragment}
+use Rattle.zb_holding.specs.Carrying.{same_frag}
+use Rattle.zb_holding.specs.Fragments.{Fragment}
 use Rattle.zb_slots.specs.Slots.{Slot, Stored, free_slot, full_slot}
 use Rattle.zb_slots.specs.Holding.{named, held, fragment_of, IsParity, IsBad, Repeats, AreTwoParities}
 use Rattle.zb_slots.specs.Laws.{SameBut}

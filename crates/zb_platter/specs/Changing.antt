@@ -5,7 +5,7 @@ use Rattle.zb_outside.specs.Runs.{Run, IsSettled}
 use Rattle.zb_cell.specs.Cell.{value}
 use Rattle.zb_types.specs.declared.geometry.Geometry.{Geometry}
 use Rattle.zb_types.specs.declared.ids.FragId.{FragId}
-use Rattle.zb_stripes.specs.Fragments.{Fragment}
+use Rattle.zb_holding.specs.Fragments.{Fragment}
 use Rattle.zb_slots.specs.Slots.{Slot, Stored, bad_slot, free_slot, full_slot}
 use Rattle.zb_slots.specs.Laws.{SameBut, NoneBut}
 use Rattle.zb_platter.specs.Tidy.{slots_in, map_of, AreTidy, IsSound, IsTidy}

@@ -1,6 +1,6 @@
 ghost use Rattle.std.specs.Prelude.{◌≡◌, ◌≢◌, ◌≤◌, ◌<◌, ◌+◌, ◌-◌, ◌++◌, ℕ, List, Some, None, drop, length, IsTrue};
 ghost use Rattle.zb_outside.specs.Counts.{HasCause};
-ghost use Rattle.zb_stripes.specs.Fragments.{share_fragment, parity_fragment};
+ghost use Rattle.zb_holding.specs.Fragments.{share_fragment, parity_fragment};
 ghost use Rattle.zb_slots.specs.Slots.{Stored, free_slot, full_slot};
 ghost use Rattle.zb_slot.specs.Area.{lengths_in};
 ghost use Rattle.zb_slot.specs.Changing.{share_slot, parity_slot};

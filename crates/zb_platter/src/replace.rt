@@ -1,7 +1,7 @@
 ghost use Rattle.std.specs.Prelude.{◌≡◌, ◌≢◌, ◌≤◌, ◌<◌, ◌+◌, ◌-◌, ℕ, List, Some, drop, length, IsTrue};
 ghost use Rattle.zb_outside.specs.Counts.{HasCause};
 ghost use Rattle.zb_cell.specs.Cell.{following};
-ghost use Rattle.zb_stripes.specs.Fragments.{parity_fragment};
+ghost use Rattle.zb_holding.specs.Fragments.{parity_fragment};
 ghost use Rattle.zb_slots.specs.Slots.{free_slot};
 ghost use Rattle.zb_slot.specs.Area.{lengths_in};
 ghost use Rattle.zb_slot.specs.Changing.{parity_slot};

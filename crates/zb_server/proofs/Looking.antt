@@ -9,8 +9,8 @@ use Rattle.zb_types.specs.declared.requests.Response.{Response}
 use Rattle.zb_types.specs.declared.requests.Response.TheVariants as told
 use Rattle.zb_types.specs.declared.requests.StoreFault.{StoreFault}
 use Rattle.zb_types.specs.declared.requests.StoreFault.TheVariants.{NoMemory, Short}
-use Rattle.zb_stripes.specs.Fragments.{Fragment, share_fragment, parity_fragment}
-use Rattle.zb_stripes.specs.Carrying.{found}
+use Rattle.zb_holding.specs.Fragments.{Fragment, share_fragment, parity_fragment}
+use Rattle.zb_holding.specs.Carrying.{found}
 use Rattle.zb_slot_read.specs.Reading.{LeftAlone}
 use Rattle.zb_index.specs.Seen.{names_above, most_names}
 use Rattle.zb_fragstore.specs.Seen.{SeenStore}

@@ -8,8 +8,8 @@ use Rattle.zb_types.specs.declared.requests.Response.{Response}
 use Rattle.zb_types.specs.declared.requests.Response.TheVariants as told
 use Rattle.zb_types.specs.declared.requests.StoreFault.{StoreFault}
 use Rattle.zb_types.specs.declared.requests.StoreFault.TheVariants.{NoMemory}
-use Rattle.zb_stripes.specs.Fragments.{Fragment}
-use Rattle.zb_stripes.specs.Carrying.{found}
+use Rattle.zb_holding.specs.Fragments.{Fragment}
+use Rattle.zb_holding.specs.Carrying.{found}
 use Rattle.zb_index.specs.Seen.{names_above, most_names}
 use Rattle.zb_fragstore.specs.Seen.{SeenStore}
 use Rattle.zb_fragstore.specs.Refusing.{refusal_to_store, refusal_to_find, refusal_to_replace, refusal_to_read, refusal_to_delete, refusal_to_fence}

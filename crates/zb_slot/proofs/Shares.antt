@@ -9,7 +9,7 @@ use Rattle.zb_cell.specs.Cell.{window, bytes_at, value}
 use Rattle.zb_cell.specs.Set.{SetTold}
 use Rattle.zb_cell.proofs.Values.{window_is}
 use Rattle.zb_types.specs.declared.ids.FragId.{FragId}
-use Rattle.zb_stripes.specs.Fragments.{share_fragment}
+use Rattle.zb_holding.specs.Fragments.{share_fragment}
 use Rattle.zb_slots.specs.declared.header.Header.{Header}
 use Rattle.zb_slots.specs.declared.header.Header.TheVariants.{Free, Share, Parity}
 use Rattle.zb_slots.specs.Headers.{header_text}

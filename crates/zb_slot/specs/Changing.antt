@@ -4,7 +4,7 @@ use Rattle.zb_outside.specs.Meaning.{Meaning, Standing}
 use Rattle.zb_outside.specs.Ranges.{SameBeside}
 use Rattle.zb_outside.specs.Runs.{Run, IsSettled}
 use Rattle.zb_types.specs.declared.ids.FragId.{FragId}
-use Rattle.zb_stripes.specs.Fragments.{share_fragment, parity_fragment}
+use Rattle.zb_holding.specs.Fragments.{share_fragment, parity_fragment}
 use Rattle.zb_slots.specs.Slots.{Slot, full_slot, slot_of}
 
 -- a slot that holds this share

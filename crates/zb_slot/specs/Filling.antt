@@ -4,7 +4,7 @@ use Rattle.zb_outside.specs.Meaning.{Meaning}
 use Rattle.zb_outside.specs.Ranges.{SameBeside}
 use Rattle.zb_outside.specs.Runs.{Run, IsSettled}
 use Rattle.zb_cell.specs.Cell.{bytes_at}
-use Rattle.zb_stripes.specs.Fragments.{Fragment, share_fragment, parity_fragment}
+use Rattle.zb_holding.specs.Fragments.{Fragment, share_fragment, parity_fragment}
 use Rattle.zb_slots.specs.declared.header.Header.{Header}
 use Rattle.zb_slots.specs.Headers.{MayStand}
 use Rattle.zb_slots.specs.Slots.{Slot, bad_slot, free_slot, full_slot, shown, slot_of}

@@ -7,7 +7,7 @@ use Rattle.byteorder.specs.Endian.{big_from}
 use Rattle.zb_cell.specs.Cell.{window, value_of, bytes_at}
 use Rattle.zb_cell.proofs.Values.{value_ext, window_ext}
 use Rattle.zb_types.specs.declared.ids.FragId.{FragId}
-use Rattle.zb_stripes.specs.Fragments.{share_fragment, parity_fragment}
+use Rattle.zb_holding.specs.Fragments.{share_fragment, parity_fragment}
 use Rattle.zb_slots.specs.declared.header.Header.{Header}
 use Rattle.zb_slots.specs.declared.header.Header.TheVariants.{Free, Share, Parity}
 use Rattle.zb_slots.specs.Headers.{judged, name_in}

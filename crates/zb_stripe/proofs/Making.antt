@@ -10,13 +10,13 @@ use Rattle.zb_types.specs.declared.ids.ServerId.{ServerId}
 use Rattle.zb_types.specs.declared.nodes.Class.{Class}
 use Rattle.zb_types.specs.declared.requests.Request.{Request}
 use Rattle.zb_types.specs.declared.requests.Request.TheVariants as ask
-use Rattle.zb_stripes.specs.Exclusive.{xor_at, greatest}
-use Rattle.zb_stripes.specs.Placing.{share_length, share_of, frag_id, server_of}
-use Rattle.zb_stripes.specs.Holding.{is_away}
-use Rattle.zb_stripes.proofs.Exclusives.{le_greatest, greatest_le}
+use Rattle.zb_holding.specs.Exclusive.{xor_at, greatest}
+use Rattle.zb_holding.specs.Placing.{share_length, share_of, frag_id, server_of}
+use Rattle.zb_holding.specs.Holding.{is_away}
+use Rattle.zb_holding.proofs.Exclusives.{le_greatest, greatest_le}
 use Rattle.zb_stripe.specs.declared.flush.Part.{Part}
 use Rattle.zb_stripe.specs.Writing.{grow, unless_out, new_bytes, share_request, lengths_of, parity_bytes, parity_request}
-use Rattle.zb_stripes.proofs.Shares.{length-share_of}
+use Rattle.zb_holding.proofs.Shares.{length-share_of}
 
 -- a share as a slice
 pub share_slice : (f : ℕ) (bytes : List ℕ) (k : ℕ) → take (share_length f (length bytes) k) (drop (min (k * f) (length bytes)) bytes) ≡ share_of f bytes k

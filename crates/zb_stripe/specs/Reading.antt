@@ -9,9 +9,9 @@ use Rattle.zb_types.specs.declared.requests.Request.TheVariants as ask
 use Rattle.zb_types.specs.declared.requests.Response.{Response}
 use Rattle.zb_types.specs.declared.requests.Response.TheVariants as told
 use Rattle.zb_types.specs.declared.requests.StoreFault.TheVariants as fault
-use Rattle.zb_stripes.specs.Exclusive.{xored}
-use Rattle.zb_stripes.specs.Placing.{frag_id, server_of}
-use Rattle.zb_stripes.specs.Holding.{is_away}
+use Rattle.zb_holding.specs.Exclusive.{xored}
+use Rattle.zb_holding.specs.Placing.{frag_id, server_of}
+use Rattle.zb_holding.specs.Holding.{is_away}
 use Rattle.zb_stripe.specs.declared.read.Got.{Got}
 use Rattle.zb_stripe.specs.declared.read.Got.TheVariants as got
 use Rattle.zb_stripe.specs.declared.progress.Phase.{Phase}

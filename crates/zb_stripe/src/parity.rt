@@ -1,7 +1,7 @@
 ghost use Rattle.std.specs.Prelude.{◌≡◌, ℕ, ◌-◌, ◌*◌, ◌<◌, ◌≤◌, IfOk, length, map, slice_index, bit_xor};
 ghost use Rattle.std.specs.List.{range_with_len};
-ghost use Rattle.zb_stripes.specs.Exclusive.{xor_at};
-ghost use Rattle.zb_stripes.specs.Placing.{share_length, share_of};
+ghost use Rattle.zb_holding.specs.Exclusive.{xor_at};
+ghost use Rattle.zb_holding.specs.Placing.{share_length, share_of};
 
 use std::alloc::Global;
 use zb_layout::share;

@@ -1,6 +1,6 @@
 ghost use Rattle.zb_stripe.specs.declared.progress.Progress.{Progress};
 ghost use Rattle.std.specs.Prelude.{◌≡◌, ◌≢◌, ℕ, Bool, List, [], ◌+◌, ◌-◌, ◌*◌, ◌<◌, ◌≤◌, IfOk, length, slice_index_or, false};
-ghost use Rattle.zb_stripes.specs.Exclusive.{xored};
+ghost use Rattle.zb_holding.specs.Exclusive.{xored};
 ghost use Rattle.zb_stripe.specs.Reading.{
   reading,
   read_of,

@@ -1,5 +1,5 @@
 ghost use Rattle.std.specs.Prelude.{◌≡◌, ℕ, ◌-◌, ◌<◌, ◌++◌, IfOk, OnOk, length, All, option_map, slice_get};
-ghost use Rattle.zb_stripes.specs.Holding.{is_away};
+ghost use Rattle.zb_holding.specs.Holding.{is_away};
 ghost use Rattle.zb_stripe.specs.Writing.{grow, share_request, parity_request, part_requests, plan_requests, IsWritable};
 ghost use Rattle.zb_stripe.specs.Feeding.{fed_by, left_after, AnswersWrite, CanFeed};
 

@@ -3,11 +3,11 @@ use Rattle.std.proofs.Common.{◌≡◌, ◌≢◌, ℕ, ◌+◌, ◌*◌, ◌/�
 use Rattle.std.proofs.lemmas.Bool.{cases_lt, cases_Bool}
 use Rattle.std.proofs.lemmas.Nat.{div-add-mod', mod_below, div_below}
 use Rattle.std.proofs.lemmas.List.{get_or-take, get_or-drop, get_or_past, length-take, length-take-le, ext_get_or}
-use Rattle.zb_stripes.specs.Fragments.{Fragment}
-use Rattle.zb_stripes.specs.Fragments.{share_fragment, parity_fragment}
-use Rattle.zb_stripes.specs.Placing.{share_length, share_of}
-use Rattle.zb_stripes.specs.Holding.{share_bytes, Begins, covered, ShareHolds, ParityHolds, ViewHolds}
-use Rattle.zb_stripes.proofs.Exclusives.{xor_other}
+use Rattle.zb_holding.specs.Fragments.{Fragment}
+use Rattle.zb_holding.specs.Fragments.{share_fragment, parity_fragment}
+use Rattle.zb_holding.specs.Placing.{share_length, share_of}
+use Rattle.zb_holding.specs.Holding.{share_bytes, Begins, covered, ShareHolds, ParityHolds, ViewHolds}
+use Rattle.zb_holding.proofs.Exclusives.{xor_other}
 
 -- a byte of a share that stands is that byte of the share
 pub begins_at : (stands : Option Fragment) (bytes : List ℕ) (y : ℕ) → Begins stands bytes → y < length (share_bytes stands) → get_or bytes y 0 ≡ get_or (share_bytes stands) y 0

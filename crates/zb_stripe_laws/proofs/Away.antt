@@ -3,8 +3,8 @@ use Rattle.std.proofs.Common.{◌≡◌, ℕ, ◌+◌, ◌%◌, ◌<◌, true, O
 use Rattle.std.proofs.lemmas.Bool.{eqb-true, false≢true}
 use Rattle.zb_types.specs.declared.ids.LogId.{LogId}
 use Rattle.zb_types.specs.declared.ids.ServerId.{ServerId}
-use Rattle.zb_stripes.specs.Holding.{away_at}
-use Rattle.zb_stripes.proofs.Placings.{turn_once}
+use Rattle.zb_holding.specs.Holding.{away_at}
+use Rattle.zb_holding.proofs.Placings.{turn_once}
 
 -- at most one fragment of a stripe is on one server
 pub away_once : (n : ℕ) (x : Option ServerId) (log : LogId) (stripe j k : ℕ) → j < n → k < n → away_at n x log stripe j ≡ true → away_at n x log stripe k ≡ true → j ≡ k

@@ -4,11 +4,11 @@ use Rattle.std.proofs.lemmas.Bool.{cases_eq, eq-eqb, ne_eqb, and_right}
 use Rattle.zb_types.specs.declared.ids.LogId.{LogId}
 use Rattle.zb_types.specs.declared.ids.ServerId.{ServerId}
 use Rattle.zb_types.specs.declared.ids.FragId.{FragId}
-use Rattle.zb_stripes.specs.Fragments.{Fragment}
+use Rattle.zb_holding.specs.Fragments.{Fragment}
 use Rattle.zb_types.specs.declared.requests.Request.{Request}
-use Rattle.zb_stripes.specs.Placing.{frag_id, server_of}
-use Rattle.zb_stripes.specs.Holding.{Maps, standing}
-use Rattle.zb_stripes.specs.Carrying.{stands_after, same_frag, is_about, carried, carried_all}
+use Rattle.zb_holding.specs.Placing.{frag_id, server_of}
+use Rattle.zb_holding.specs.Holding.{Maps, standing}
+use Rattle.zb_holding.specs.Carrying.{stands_after, same_frag, is_about, carried, carried_all}
 
 same_index : (log : LogId) (stripe k j : ℕ) → same_frag (frag_id log stripe k) (frag_id log stripe j) ≡ eqb k j
 same_index log stripe k j =

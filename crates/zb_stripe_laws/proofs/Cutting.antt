@@ -1,11 +1,11 @@
 -- Shares of a stripe's first bytes.
 use Rattle.std.proofs.Common.{◌≡◌, ℕ, ◌≤◌, List, length, take, get_or, Option, Some, None, ap, ◌∙◌, arith}
 use Rattle.std.proofs.lemmas.List.{length-take, take-take}
-use Rattle.zb_stripes.specs.Fragments.{Fragment}
-use Rattle.zb_stripes.specs.Fragments.{share_fragment, parity_fragment}
-use Rattle.zb_stripes.proofs.Shares.{share_of-take}
-use Rattle.zb_stripes.specs.Placing.{share_length, share_of}
-use Rattle.zb_stripes.specs.Holding.{Begins, covered}
+use Rattle.zb_holding.specs.Fragments.{Fragment}
+use Rattle.zb_holding.specs.Fragments.{share_fragment, parity_fragment}
+use Rattle.zb_holding.proofs.Shares.{share_of-take}
+use Rattle.zb_holding.specs.Placing.{share_length, share_of}
+use Rattle.zb_holding.specs.Holding.{Begins, covered}
 
 -- what begins a beginning begins the whole
 pub begins_longer : (stands : Option Fragment) (bytes : List ℕ) (s : ℕ) → Begins stands (take s bytes) → Begins stands bytes

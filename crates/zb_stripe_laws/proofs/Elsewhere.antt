@@ -7,9 +7,9 @@ use Rattle.zb_types.specs.declared.ids.FragId.{FragId}
 use Rattle.zb_types.specs.declared.nodes.Class.{Class}
 use Rattle.zb_types.specs.declared.requests.Request.{Request}
 use Rattle.zb_types.specs.declared.requests.Request.TheVariants as ask
-use Rattle.zb_stripes.specs.Placing.{frag_id, server_of, share_length}
-use Rattle.zb_stripes.specs.Holding.{Maps, is_away}
-use Rattle.zb_stripes.specs.Carrying.{stands_after, same_frag, is_about, carried, carried_all}
+use Rattle.zb_holding.specs.Placing.{frag_id, server_of, share_length}
+use Rattle.zb_holding.specs.Holding.{Maps, is_away}
+use Rattle.zb_holding.specs.Carrying.{stands_after, same_frag, is_about, carried, carried_all}
 use Rattle.zb_stripe.specs.declared.flush.Part.{Part}
 use Rattle.zb_stripe.specs.Writing.{grow, unless_out, new_bytes, share_request, share_requests, lengths_of, parity_bytes, parity_request, part_requests}
 use Rattle.zb_stripe_laws.specs.PartAtWork.{IsElsewhere}

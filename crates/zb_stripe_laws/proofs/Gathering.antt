@@ -9,27 +9,27 @@ use Rattle.std.proofs.lemmas.List.FromFn.{length-map-range_with_len, get_or-map-
 use Rattle.std.proofs.lemmas.List.{get_or-set_same, get_or-set_other, length-set, length-take, length-drop, length-append, length-take-le, get_or-take, get_or-drop, get_or_past, drop-drop, ext_get_or}
 use Rattle.zb_types.specs.declared.ids.ServerId.{ServerId}
 use Rattle.zb_types.specs.declared.ids.Ptr.{Ptr}
-use Rattle.zb_stripes.specs.Fragments.{Fragment}
-use Rattle.zb_stripes.specs.Fragments.{share_fragment, parity_fragment}
+use Rattle.zb_holding.specs.Fragments.{Fragment}
+use Rattle.zb_holding.specs.Fragments.{share_fragment, parity_fragment}
 use Rattle.zb_types.specs.declared.requests.Request.{Request}
 use Rattle.zb_types.specs.declared.requests.Request.TheVariants as ask
 use Rattle.zb_types.specs.declared.requests.Response.{Response}
 use Rattle.zb_types.specs.declared.requests.Response.TheVariants as told
-use Rattle.zb_stripes.specs.Exclusive.{xor_at}
-use Rattle.zb_stripes.specs.Placing.{share_length, share_of, frag_id, server_of}
-use Rattle.zb_stripes.specs.Holding.{Maps, covered, CoversShares, ParityHolds, StripeHolds, is_away, standing, away_at}
-use Rattle.zb_stripes.specs.Carrying.{found}
-use Rattle.zb_stripes.proofs.Exclusives.{xor_more, without, xor_without, length-xored, get_or-xored}
+use Rattle.zb_holding.specs.Exclusive.{xor_at}
+use Rattle.zb_holding.specs.Placing.{share_length, share_of, frag_id, server_of}
+use Rattle.zb_holding.specs.Holding.{Maps, covered, CoversShares, ParityHolds, StripeHolds, is_away, standing, away_at}
+use Rattle.zb_holding.specs.Carrying.{found}
+use Rattle.zb_holding.proofs.Exclusives.{xor_more, without, xor_without, length-xored, get_or-xored}
 use Rattle.zb_stripe_laws.proofs.Away.{away_once}
 use Rattle.zb_stripe.specs.declared.read.Got.{Got}
 use Rattle.zb_stripe.specs.declared.read.Got.TheVariants as got
 use Rattle.zb_stripe.specs.declared.progress.Phase.{Phase}
 use Rattle.zb_stripe.specs.declared.progress.Phase.TheVariants.{Direct, Lengths, Others}
-use Rattle.zb_stripes.specs.Exclusive.{xored}
+use Rattle.zb_holding.specs.Exclusive.{xored}
 use Rattle.zb_stripe.specs.Reading.{Reading, entered, advanced, own_lost, sought, names_two, blocked_in, gained_by, gained, own_gone, fed, asked, first_lost, start, is_more, answered}
 use Rattle.zb_stripe_laws.specs.ReadAtWork as work
 use Rattle.zb_stripe_laws.specs.ReadAtWork.{IsNotThere, AnswersWith, AnswersFrom, AllAnswer}
-use Rattle.zb_stripes.proofs.Shares.{length-share_of}
+use Rattle.zb_holding.proofs.Shares.{length-share_of}
 use Rattle.zb_stripe_laws.proofs.Ranges.{range_is, found_in_share, parity_range, length-parity_range, parity_range_at}
 
 module _ (n f : ℕ) (MayBeDown : ServerId → Type 0) (maps : Maps) (x : Option ServerId) (ptr : Ptr) (end : ℕ) (bytes : List ℕ)

@@ -5,14 +5,14 @@ use Rattle.std.proofs.lemmas.List.{length-drop, take_all, take-append-drop}
 use Rattle.zb_types.specs.declared.ids.LogId.{LogId}
 use Rattle.zb_types.specs.declared.ids.ServerId.{ServerId}
 use Rattle.zb_types.specs.declared.ids.FragId.{FragId}
-use Rattle.zb_stripes.specs.Fragments.{Fragment}
-use Rattle.zb_stripes.specs.Fragments.{share_fragment, parity_fragment}
+use Rattle.zb_holding.specs.Fragments.{Fragment}
+use Rattle.zb_holding.specs.Fragments.{share_fragment, parity_fragment}
 use Rattle.zb_types.specs.declared.nodes.Class.{Class}
 use Rattle.zb_types.specs.declared.requests.Request.{Request}
 use Rattle.zb_types.specs.declared.requests.Request.TheVariants as ask
-use Rattle.zb_stripes.specs.Placing.{share_length, share_of, frag_id, server_of}
-use Rattle.zb_stripes.specs.Holding.{Maps, Begins, is_away, standing, away_at}
-use Rattle.zb_stripes.specs.Carrying.{stands_after, same_frag, is_about, carried_all}
+use Rattle.zb_holding.specs.Placing.{share_length, share_of, frag_id, server_of}
+use Rattle.zb_holding.specs.Holding.{Maps, Begins, is_away, standing, away_at}
+use Rattle.zb_holding.specs.Carrying.{stands_after, same_frag, is_about, carried_all}
 use Rattle.zb_stripe.specs.declared.flush.Part.{Part}
 use Rattle.zb_stripe.specs.Writing.{grow, unless_out, new_bytes, share_request, share_requests}
 use Rattle.zb_stripe_laws.specs.PartAtWork.{IsSpared, HasBytes, IsWhole, StripeAtWork}

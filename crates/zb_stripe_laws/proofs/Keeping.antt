@@ -5,21 +5,21 @@ use Rattle.std.proofs.lemmas.List.{length-take, length-append, take_all, take-ap
 use Rattle.std.proofs.lemmas.List.FromFn.{length-map-range_with_len, get_or-map-range_with_len}
 use Rattle.zb_types.specs.declared.ids.LogId.{LogId}
 use Rattle.zb_types.specs.declared.ids.ServerId.{ServerId}
-use Rattle.zb_stripes.specs.Fragments.{Fragment}
-use Rattle.zb_stripes.specs.Fragments.{share_fragment, parity_fragment}
+use Rattle.zb_holding.specs.Fragments.{Fragment}
+use Rattle.zb_holding.specs.Fragments.{share_fragment, parity_fragment}
 use Rattle.zb_types.specs.declared.nodes.Class.{Class}
 use Rattle.zb_types.specs.declared.requests.Request.{Request}
 use Rattle.zb_types.specs.declared.requests.Request.TheVariants as ask
-use Rattle.zb_stripes.specs.Exclusive.{xor_at, greatest}
-use Rattle.zb_stripes.specs.Placing.{share_length, share_of, frag_id, server_of}
-use Rattle.zb_stripes.specs.Holding.{Maps, share_bytes, Begins, covered, ShareHolds, CoversShares, ParityHolds, ViewHolds, StripeHolds, is_away, standing, away_at}
-use Rattle.zb_stripes.specs.Carrying.{carried_all}
-use Rattle.zb_stripes.proofs.Exclusives.{xor_same, xor_past, le_greatest}
+use Rattle.zb_holding.specs.Exclusive.{xor_at, greatest}
+use Rattle.zb_holding.specs.Placing.{share_length, share_of, frag_id, server_of}
+use Rattle.zb_holding.specs.Holding.{Maps, share_bytes, Begins, covered, ShareHolds, CoversShares, ParityHolds, ViewHolds, StripeHolds, is_away, standing, away_at}
+use Rattle.zb_holding.specs.Carrying.{carried_all}
+use Rattle.zb_holding.proofs.Exclusives.{xor_same, xor_past, le_greatest}
 use Rattle.zb_stripe.specs.declared.flush.Part.{Part}
 use Rattle.zb_stripe.specs.Writing.{new_bytes, share_request, share_requests, lengths_of, parity_bytes, parity_request, part_requests, IsWritable}
 use Rattle.zb_stripe_laws.specs.PartAtWork.{IsSpared, HasBytes, StandsUpTo, IsUnwritten, IsWhole, StripeAtWork}
 use Rattle.zb_stripe_laws.proofs.Carrying.{standing-carried, stepped_here, stepped_other, carried-append}
-use Rattle.zb_stripes.proofs.Shares.{length-share_of, share_of-take}
+use Rattle.zb_holding.proofs.Shares.{length-share_of, share_of-take}
 use Rattle.zb_stripe_laws.proofs.Cutting.{begins_longer, covered-take}
 use Rattle.zb_stripe_laws.proofs.Growing.{grows_all, spared_away}
 

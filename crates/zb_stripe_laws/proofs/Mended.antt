@@ -5,13 +5,13 @@ use Rattle.std.specs.List.{range_with_len}
 use Rattle.std.proofs.lemmas.Bool.{cases_eq, cases_lt, cond_both, eq-eqb, ne_eqb, eqb-true, eqb-false}
 use Rattle.std.proofs.lemmas.List.{length-take-le, get_or_past, length-take}
 use Rattle.std.proofs.lemmas.List.FromFn.{length-map-range_with_len, get_or-map-range_with_len}
-use Rattle.zb_stripes.specs.Fragments.{Fragment}
-use Rattle.zb_stripes.specs.Fragments.{share_fragment, parity_fragment}
-use Rattle.zb_stripes.specs.Exclusive.{xor_at, greatest}
-use Rattle.zb_stripes.specs.Placing.{share_of, share_length}
-use Rattle.zb_stripes.specs.Holding.{share_bytes, Begins, ShareHolds, ParityHolds, ViewHolds}
-use Rattle.zb_stripes.proofs.Exclusives.{xor_past, le_greatest}
-use Rattle.zb_stripes.proofs.Shares.{length-share_of}
+use Rattle.zb_holding.specs.Fragments.{Fragment}
+use Rattle.zb_holding.specs.Fragments.{share_fragment, parity_fragment}
+use Rattle.zb_holding.specs.Exclusive.{xor_at, greatest}
+use Rattle.zb_holding.specs.Placing.{share_of, share_length}
+use Rattle.zb_holding.specs.Holding.{share_bytes, Begins, ShareHolds, ParityHolds, ViewHolds}
+use Rattle.zb_holding.proofs.Exclusives.{xor_past, le_greatest}
+use Rattle.zb_holding.proofs.Shares.{length-share_of}
 use Rattle.zb_stripe_laws.specs.Restoring.{share_or_none, end_lengths, end_parity, with_index, lengths_in}
 
 begins_take : (n : ℕ) (bytes : List ℕ) → n ≤ length bytes → Begins (share_or_none (take n bytes)) bytes

@@ -7,10 +7,10 @@ use Rattle.zb_types.specs.declared.ids.Ptr.{Ptr}
 use Rattle.zb_types.specs.declared.requests.Response.{Response}
 use Rattle.zb_types.specs.declared.requests.Response.TheVariants as told
 use Rattle.zb_types.specs.declared.requests.StoreFault.TheVariants as fault
-use Rattle.zb_stripes.specs.Fragments.{Fragment, share_fragment, parity_fragment}
-use Rattle.zb_stripes.specs.Placing.{share_of, frag_id, server_of}
-use Rattle.zb_stripes.specs.Holding.{Maps, share_bytes, Begins, StripeHolds, standing, away_at}
-use Rattle.zb_stripes.specs.Carrying.{found}
+use Rattle.zb_holding.specs.Fragments.{Fragment, share_fragment, parity_fragment}
+use Rattle.zb_holding.specs.Placing.{share_of, frag_id, server_of}
+use Rattle.zb_holding.specs.Holding.{Maps, share_bytes, Begins, StripeHolds, standing, away_at}
+use Rattle.zb_holding.specs.Carrying.{found}
 use Rattle.zb_stripe.specs.declared.read.Got.{Got}
 use Rattle.zb_stripe.specs.declared.read.Got.TheVariants as got
 use Rattle.zb_stripe.specs.declared.progress.Phase.{Phase}
@@ -18,7 +18,7 @@ use Rattle.zb_stripe.specs.declared.progress.Phase.TheVariants.{Direct, Lengths,
 use Rattle.zb_stripe.specs.Reading.{Reading, names_two, asked, fed}
 use Rattle.zb_stripe_laws.specs.ReadAtWork.{IsGoneOrSame, IsGoneOrLonger, StillStand, ReadAtWork, WasLooked, AnswersWith, MayAnswer, LeadsTo}
 use Rattle.zb_stripe_laws.specs.ReadAtWork as work
-use Rattle.zb_stripes.proofs.Placings.{turn_once}
+use Rattle.zb_holding.proofs.Placings.{turn_once}
 use Rattle.zb_stripe_laws.proofs.Gathering.{Good, step, covers_it}
 
 -- a range within the committed bytes is the same in lists that agree on these

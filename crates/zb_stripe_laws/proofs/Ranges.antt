@@ -5,13 +5,13 @@ use Rattle.std.proofs.lemmas.Bool.{cases_lt, le-leb, eqb-true, false≢true}
 use Rattle.std.proofs.lemmas.Nat.{div-add-mod', mod_below}
 use Rattle.std.proofs.lemmas.List.{length-drop, length-append, length-take-le, get_or-take, get_or-drop, get_or_past, get_or_append_left, get_or-append_right, get_or-replicate, length-replicate, take-take, drop-take, drop-drop}
 use Rattle.zb_types.specs.declared.ids.ServerId.{ServerId}
-use Rattle.zb_stripes.specs.Fragments.{Fragment}
-use Rattle.zb_stripes.specs.Fragments.{share_fragment, parity_fragment}
+use Rattle.zb_holding.specs.Fragments.{Fragment}
+use Rattle.zb_holding.specs.Fragments.{share_fragment, parity_fragment}
 use Rattle.zb_types.specs.declared.requests.Response.TheVariants as told
 use Rattle.zb_types.specs.declared.requests.StoreFault.TheVariants as fault
-use Rattle.zb_stripes.specs.Placing.{share_of}
-use Rattle.zb_stripes.specs.Holding.{share_bytes, Begins, is_away}
-use Rattle.zb_stripes.specs.Carrying.{found}
+use Rattle.zb_holding.specs.Placing.{share_of}
+use Rattle.zb_holding.specs.Holding.{share_bytes, Begins, is_away}
+use Rattle.zb_holding.specs.Carrying.{found}
 
 -- a range within one share is that range of the stripe
 pub range_is : (f pos len : ℕ) (bytes : List ℕ) → 0 < f → len ≤ f - pos % f → take len (drop (pos % f) (share_of f bytes (pos / f))) ≡ take len (drop pos bytes)

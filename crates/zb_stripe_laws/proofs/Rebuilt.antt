@@ -3,11 +3,11 @@ use Rattle.std.proofs.Common.{◌≡◌, ◌≢◌, ℕ, zero, suc, ◌+◌, ◌
 use Rattle.std.specs.List.{range_with_len}
 use Rattle.std.proofs.lemmas.List.{length-take-le, take-take, ext_get_or}
 use Rattle.std.proofs.lemmas.List.FromFn.{length-map-range_with_len, get_or-map-range_with_len}
-use Rattle.zb_stripes.specs.Fragments.{Fragment, share_fragment, parity_fragment}
-use Rattle.zb_stripes.specs.Placing.{share_of}
-use Rattle.zb_stripes.specs.Exclusive.{xor_at, list_at}
-use Rattle.zb_stripes.specs.Holding.{share_bytes, Begins, covered, CoversShares, ParityHolds, ViewHolds}
-use Rattle.zb_stripes.proofs.Exclusives.{xor_same, xor_all, xor_others}
+use Rattle.zb_holding.specs.Fragments.{Fragment, share_fragment, parity_fragment}
+use Rattle.zb_holding.specs.Placing.{share_of}
+use Rattle.zb_holding.specs.Exclusive.{xor_at, list_at}
+use Rattle.zb_holding.specs.Holding.{share_bytes, Begins, covered, CoversShares, ParityHolds, ViewHolds}
+use Rattle.zb_holding.proofs.Exclusives.{xor_same, xor_all, xor_others}
 use Rattle.zb_parity.specs.Rebuilding.{Rebuilds}
 use Rattle.zb_stripe_laws.specs.Restoring.{cut_to, others_of}
 

@@ -1,10 +1,10 @@
 -- A stripe is judged by what is looked at.
 use Rattle.std.proofs.Common.{◌≡◌, ℕ, ◌≤◌, Bool, false, List, length, Option, Some, None, sym, subst}
 use Rattle.std.specs.Prelude.{slice_index}
-use Rattle.zb_stripes.specs.Fragments.{Fragment}
-use Rattle.zb_stripes.specs.Fragments.{share_fragment, parity_fragment}
-use Rattle.zb_stripes.specs.Placing.{share_of, share_length}
-use Rattle.zb_stripes.specs.Holding.{share_bytes, Begins, ParityHolds, ViewHolds}
+use Rattle.zb_holding.specs.Fragments.{Fragment}
+use Rattle.zb_holding.specs.Fragments.{share_fragment, parity_fragment}
+use Rattle.zb_holding.specs.Placing.{share_of, share_length}
+use Rattle.zb_holding.specs.Holding.{share_bytes, Begins, ParityHolds, ViewHolds}
 
 module _ (m f : ℕ) (stands stands' : ℕ → Option Fragment) (away : ℕ → Bool) (end : ℕ) (bytes : List ℕ) (same : (k : ℕ) → away k ≡ false → stands' k ≡ stands k) where
   seen_parity : (p : Option Fragment) → ParityHolds m f stands away end bytes p → ParityHolds m f stands' away end bytes p

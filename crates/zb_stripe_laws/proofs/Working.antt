@@ -10,10 +10,10 @@ use Rattle.zb_types.specs.declared.ids.ServerId.{ServerId}
 use Rattle.zb_types.specs.declared.ids.FragId.{FragId}
 use Rattle.zb_types.specs.declared.nodes.Class.{Class}
 use Rattle.zb_types.specs.declared.requests.Request.{Request}
-use Rattle.zb_stripes.specs.Fragments.{Fragment}
-use Rattle.zb_stripes.specs.Placing.{frag_id, server_of, share_of, share_length}
-use Rattle.zb_stripes.specs.Holding.{Maps, Begins, StripeHolds, standing, away_at}
-use Rattle.zb_stripes.specs.Carrying.{stands_after, is_about, carried, carried_all}
+use Rattle.zb_holding.specs.Fragments.{Fragment}
+use Rattle.zb_holding.specs.Placing.{frag_id, server_of, share_of, share_length}
+use Rattle.zb_holding.specs.Holding.{Maps, Begins, StripeHolds, standing, away_at}
+use Rattle.zb_holding.specs.Carrying.{stands_after, is_about, carried, carried_all}
 use Rattle.zb_stripe.specs.declared.flush.Part.{Part}
 use Rattle.zb_stripe.specs.Writing.{part_requests, IsWritable}
 use Rattle.zb_stripe_laws.specs.PartAtWork.{IsSpared, HasBytes, IsWhole, StripeAtWork, MayBegin, PartAtWork, AreElsewhere, StripesDiffer}
@@ -22,7 +22,7 @@ use Rattle.zb_stripe_laws.proofs.Elsewhere.{Silent, silent_part}
 use Rattle.zb_stripe_laws.proofs.Keeping.{holds_less, part_prefix, each_law, whole_law, fresh_law}
 use Rattle.zb_stripe_laws.proofs.Growing.{grows_all}
 use Rattle.zb_stripe_laws.proofs.Cutting.{begins_longer}
-use Rattle.zb_stripes.proofs.Shares.{share_of-take}
+use Rattle.zb_holding.proofs.Shares.{share_of-take}
 use Rattle.zb_stripe_laws.proofs.Seeing.{holds_seen}
 
 carried_next : (maps : Maps) (rs : List (ServerId × Request)) (i : ℕ) (r : ServerId × Request) → slice_get rs i ≡ Some r → carried_all maps (take (suc i) rs) ≡ carried (carried_all maps (take i rs)) r

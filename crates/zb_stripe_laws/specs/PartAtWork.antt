@@ -4,10 +4,10 @@ use Rattle.zb_types.specs.declared.ids.LogId.{LogId}
 use Rattle.zb_types.specs.declared.ids.ServerId.{ServerId}
 use Rattle.zb_types.specs.declared.ids.FragId.{FragId}
 use Rattle.zb_types.specs.declared.nodes.Class.{Class}
-use Rattle.zb_stripes.specs.Fragments.{Fragment, share_fragment, parity_fragment}
-use Rattle.zb_stripes.specs.Placing.{share_length, share_of}
-use Rattle.zb_stripes.specs.Holding.{Maps, StripeHolds, standing, away_at}
-use Rattle.zb_stripes.specs.Carrying.{carried_all}
+use Rattle.zb_holding.specs.Fragments.{Fragment, share_fragment, parity_fragment}
+use Rattle.zb_holding.specs.Placing.{share_length, share_of}
+use Rattle.zb_holding.specs.Holding.{Maps, StripeHolds, standing, away_at}
+use Rattle.zb_holding.specs.Carrying.{carried_all}
 use Rattle.zb_stripe.specs.declared.flush.Part.{Part}
 use Rattle.zb_stripe.specs.Writing.{part_requests}
 

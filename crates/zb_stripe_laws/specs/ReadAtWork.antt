@@ -7,10 +7,10 @@ use Rattle.zb_types.specs.declared.requests.Request.TheVariants as ask
 use Rattle.zb_types.specs.declared.requests.Response.{Response}
 use Rattle.zb_types.specs.declared.requests.Response.TheVariants as told
 use Rattle.zb_types.specs.declared.requests.StoreFault.TheVariants as fault
-use Rattle.zb_stripes.specs.Fragments.{Fragment, share_fragment, parity_fragment}
-use Rattle.zb_stripes.specs.Exclusive.{xor_at}
-use Rattle.zb_stripes.specs.Holding.{Maps, StripeHolds, covered, is_away, standing, away_at}
-use Rattle.zb_stripes.specs.Carrying.{found}
+use Rattle.zb_holding.specs.Fragments.{Fragment, share_fragment, parity_fragment}
+use Rattle.zb_holding.specs.Exclusive.{xor_at}
+use Rattle.zb_holding.specs.Holding.{Maps, StripeHolds, covered, is_away, standing, away_at}
+use Rattle.zb_holding.specs.Carrying.{found}
 use Rattle.zb_stripe.specs.declared.read.Got.{Got}
 use Rattle.zb_stripe.specs.declared.read.Got.TheVariants as got
 use Rattle.zb_stripe.specs.declared.progress.Phase.{Phase}

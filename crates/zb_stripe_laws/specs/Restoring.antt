@@ -1,11 +1,11 @@
 -- What a rebuild puts on a server that lacks its fragments.
 use Rattle.std.specs.Prelude.{ℕ, ◌+◌, ◌-◌, ◌++◌, ◌==◌, if◌then◌else◌, List, [], length, take, map, slice_index, Option, Some, None}
 use Rattle.std.specs.List.{range_with_len}
-use Rattle.zb_stripes.specs.Fragments.{Fragment}
-use Rattle.zb_stripes.specs.Fragments.{share_fragment, parity_fragment}
-use Rattle.zb_stripes.specs.Exclusive.{xor_at, greatest}
-use Rattle.zb_stripes.specs.Holding.{share_bytes}
-use Rattle.zb_stripes.specs.Placing.{share_of, share_length}
+use Rattle.zb_holding.specs.Fragments.{Fragment}
+use Rattle.zb_holding.specs.Fragments.{share_fragment, parity_fragment}
+use Rattle.zb_holding.specs.Exclusive.{xor_at, greatest}
+use Rattle.zb_holding.specs.Holding.{share_bytes}
+use Rattle.zb_holding.specs.Placing.{share_of, share_length}
 
 -- a share of these bytes, and no fragment where there are none
 abbrev pub share_or_none : List ℕ → Option Fragment

@@ -1,9 +1,9 @@
 ghost use Rattle.std.specs.Prelude.{◌≡◌, ◌≢◌, ℕ, ◌<◌, ◌≤◌, Bool, false, List, length, take, slice_index, Option, Some};
 ghost use Rattle.zb_types.specs.declared.ids.LogId.{LogId};
 ghost use Rattle.zb_types.specs.declared.ids.ServerId.{ServerId};
-ghost use Rattle.zb_stripes.specs.Fragments.{Fragment, parity_fragment};
-ghost use Rattle.zb_stripes.specs.Placing.{share_of};
-ghost use Rattle.zb_stripes.specs.Holding.{Maps, StripeHolds, ViewHolds, AreBytesOfStripe};
+ghost use Rattle.zb_holding.specs.Fragments.{Fragment, parity_fragment};
+ghost use Rattle.zb_holding.specs.Placing.{share_of};
+ghost use Rattle.zb_holding.specs.Holding.{Maps, StripeHolds, ViewHolds, AreBytesOfStripe};
 ghost use Rattle.zb_parity.specs.Rebuilding.{Rebuilds};
 ghost use Rattle.zb_stripe_laws.specs.Restoring.{cut_to, end_parity, lengths_in, others_of, share_or_none, with_index};
 

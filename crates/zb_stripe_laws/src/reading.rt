@@ -2,7 +2,7 @@ ghost use Rattle.std.specs.Prelude.{◌≡◌, ℕ, ◌+◌, ◌-◌, ◌*◌, �
 ghost use Rattle.zb_types.specs.declared.ids.ServerId.{ServerId};
 ghost use Rattle.zb_types.specs.declared.ids.Ptr.{Ptr};
 ghost use Rattle.zb_types.specs.declared.requests.Response.{Response};
-ghost use Rattle.zb_stripes.specs.Holding.{Maps, StripeHolds, standing, away_at};
+ghost use Rattle.zb_holding.specs.Holding.{Maps, StripeHolds, standing, away_at};
 ghost use Rattle.zb_stripe.specs.Reading.{Reading, start, asked, fed, answered};
 ghost use Rattle.zb_stripe_laws.specs.ReadAtWork.{
   ReadAtWork,

@@ -3,8 +3,8 @@ use Rattle.std.proofs.Common.{◌≡◌, ◌≢◌, ◌⊎◌, inl, inr, ⊎_eli
 use Rattle.std.proofs.lemmas.Bool.{cases_eq, cases_lt}
 use Rattle.zb_cell.specs.Cell.{following}
 use Rattle.zb_types.specs.declared.ids.FragId.{FragId}
-use Rattle.zb_stripes.specs.Carrying.{same_frag}
-use Rattle.zb_stripes.specs.Fragments.{Fragment, share_fragment, parity_fragment}
+use Rattle.zb_holding.specs.Carrying.{same_frag}
+use Rattle.zb_holding.specs.Fragments.{Fragment, share_fragment, parity_fragment}
 use Rattle.zb_slots.specs.Slots.{Slot, Stored, bad_slot, free_slot, full_slot}
 use Rattle.zb_slots.specs.Holding.{named, newer, held, IsParity, Repeats, AreTwoParities}
 use Rattle.zb_slots.specs.Laws.{SameBut, NoneBut}

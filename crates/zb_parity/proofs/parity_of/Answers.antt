@@ -1,6 +1,6 @@
 use Rattle.std.proofs.Common.{◌≡◌, List, ℕ, length, map, get_or, ap, ◌∙◌, rules}
 use Rattle.std.specs.Prelude.{replicate}
-use Rattle.zb_stripes.specs.Exclusive.{greatest}
+use Rattle.zb_holding.specs.Exclusive.{greatest}
 use Rattle.std.proofs.lemmas.List.{take_at}
 use Rattle.zb_parity.proofs.Sharing.{parity_at}
 use Rattle.zb_parity.proofs.parity_of.Goals as goal

@@ -1,6 +1,6 @@
 use Rattle.std.proofs.Common.{◌+◌, refl, sym, arith}
 use Rattle.zb_parity.proofs.Lanes.{put_chunk-xored, set-xored}
-use Rattle.zb_stripes.proofs.Exclusives.{xored-nil}
+use Rattle.zb_holding.proofs.Exclusives.{xored-nil}
 use Rattle.zb_parity.proofs.xor_into.Goals as goal
 
 pub loop-at-init : goal.loop-at-init

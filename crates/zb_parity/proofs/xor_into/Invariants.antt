@@ -1,5 +1,5 @@
 use Rattle.std.proofs.Common.{length, ◌-◌, ◌≡◌, ◌≤◌, take}
-use Rattle.zb_stripes.specs.Exclusive.{xored}
+use Rattle.zb_holding.specs.Exclusive.{xored}
 use Rattle.zb_parity.proofs.xor_into.Given as goal
 
 abbrev pub invariant-loop-at : goal.invariant-loop-at

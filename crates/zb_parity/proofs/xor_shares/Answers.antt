@@ -1,5 +1,5 @@
 use Rattle.std.proofs.Common.{◌∙◌, List, ℕ, length, min, take, get_or, ap, arith}
-use Rattle.zb_stripes.proofs.Exclusives.{get_or-xored}
+use Rattle.zb_holding.proofs.Exclusives.{get_or-xored}
 use Rattle.zb_parity.proofs.Sharing.{xor_at-put_more}
 use Rattle.zb_parity.proofs.xor_shares.Goals as goal
 

@@ -1,5 +1,5 @@
 use Rattle.std.proofs.Common.{◌≡◌, ℕ, ◌<◌, length, slice_index, bit_xor}
-use Rattle.zb_stripes.specs.Exclusive.{xor_at, list_at}
+use Rattle.zb_holding.specs.Exclusive.{xor_at, list_at}
 use Rattle.zb_parity.proofs.xor_shares.Given as goal
 
 abbrev pub invariant-loop-share : goal.invariant-loop-share

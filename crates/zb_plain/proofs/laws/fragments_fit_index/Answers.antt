@@ -2,7 +2,7 @@ use Rattle.std.proofs.Common.{List, length, sym, subst, arith}
 use Rattle.std.proofs.lemmas.List.{take_all}
 use Rattle.zb_types.specs.declared.ids.ServerId.{ServerId}
 use Rattle.zb_types.specs.declared.requests.Request.{Request}
-use Rattle.zb_stripes.specs.Carrying.{carried_all}
+use Rattle.zb_holding.specs.Carrying.{carried_all}
 use Rattle.zb_stripe.specs.Writing.{plan_requests}
 use Rattle.zb_plain.specs.Indexed.{FitsIndex, AllFitIndex}
 use Rattle.zb_plain.proofs.Indexing.{plan_fits_index, nothing_stands}

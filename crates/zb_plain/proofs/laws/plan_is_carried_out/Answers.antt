@@ -1,6 +1,6 @@
 use Rattle.std.proofs.Common.{sym, ap, ◌∙◌}
-use Rattle.zb_stripes.specs.Holding.{Maps}
-use Rattle.zb_stripes.specs.Carrying.{carried}
+use Rattle.zb_holding.specs.Holding.{Maps}
+use Rattle.zb_holding.specs.Carrying.{carried}
 use Rattle.zb_plain.proofs.Asking.{plan_may_ask}
 use Rattle.zb_plain.proofs.Taking.{plan_is_done, carried_next}
 use Rattle.zb_plain.proofs.laws.plan_is_carried_out.Goals as goal

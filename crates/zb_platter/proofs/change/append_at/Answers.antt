@@ -1,5 +1,5 @@
 use Rattle.std.proofs.Common.{◌++◌, refl}
-use Rattle.zb_stripes.specs.Fragments.{share_fragment}
+use Rattle.zb_holding.specs.Fragments.{share_fragment}
 use Rattle.zb_slots.specs.Slots.{Stored, full_slot}
 use Rattle.zb_platter.specs.Tidy.{slots_in}
 use Rattle.zb_platter.proofs.Knowing.{may_replace, ready_at, slot_at, told_of_map, holds_it}

@@ -1,4 +1,4 @@
-use Rattle.zb_stripes.specs.Fragments.{share_fragment}
+use Rattle.zb_holding.specs.Fragments.{share_fragment}
 use Rattle.zb_slots.specs.Slots.{Stored, full_slot}
 use Rattle.zb_platter.specs.Tidy.{slots_in}
 use Rattle.zb_platter.proofs.Knowing.{may_fill, ready_at, slot_at, told_of_map, holds_it}

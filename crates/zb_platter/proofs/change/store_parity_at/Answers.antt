@@ -1,5 +1,5 @@
 use Rattle.std.proofs.Common.{◌-◌, drop}
-use Rattle.zb_stripes.specs.Fragments.{parity_fragment}
+use Rattle.zb_holding.specs.Fragments.{parity_fragment}
 use Rattle.zb_slots.specs.Slots.{Stored, full_slot}
 use Rattle.zb_slot.specs.Area.{lengths_in}
 use Rattle.zb_platter.specs.Tidy.{slots_in}

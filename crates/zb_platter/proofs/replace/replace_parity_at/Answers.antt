@@ -1,6 +1,6 @@
 use Rattle.std.proofs.Common.{ℕ, ◌-◌, drop, refl}
 use Rattle.zb_cell.specs.Cell.{following}
-use Rattle.zb_stripes.specs.Fragments.{parity_fragment}
+use Rattle.zb_holding.specs.Fragments.{parity_fragment}
 use Rattle.zb_slots.specs.Slots.{Stored}
 use Rattle.zb_slot.specs.Area.{lengths_in}
 use Rattle.zb_platter.specs.Tidy.{slots_in}

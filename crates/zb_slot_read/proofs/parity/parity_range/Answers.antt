@@ -1,5 +1,5 @@
 use Rattle.std.proofs.Common.{ℕ, List, slice_index, ◌+◌, ◌∙◌, ap, arith}
-use Rattle.zb_stripes.specs.Fragments.{parity_fragment}
+use Rattle.zb_holding.specs.Fragments.{parity_fragment}
 use Rattle.zb_slots.specs.Slots.{Stored}
 use Rattle.zb_slot_read.proofs.Leaving.{left_then}
 use Rattle.zb_slot_read.proofs.Bodies.{lengths_stand, padded_part}

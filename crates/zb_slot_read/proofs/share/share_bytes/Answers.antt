@@ -1,5 +1,5 @@
 use Rattle.std.proofs.Common.{◌≡◌, ◌+◌, ◌≤◌, List, ℕ, length, take, drop, ◌∙◌, ap, arith}
-use Rattle.zb_stripes.specs.Fragments.{share_fragment}
+use Rattle.zb_holding.specs.Fragments.{share_fragment}
 use Rattle.zb_slots.specs.Slots.{Stored}
 use Rattle.zb_slot_read.proofs.Bodies.{read_part}
 use Rattle.zb_slot_read.proofs.share.share_bytes.Goals as goal

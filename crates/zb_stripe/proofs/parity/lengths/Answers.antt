@@ -1,6 +1,6 @@
 use Rattle.std.proofs.Common.{◌∙◌, sym, arith}
 use Rattle.std.proofs.lemmas.List.FromFn.{map-range_with_len_more}
-use Rattle.zb_stripes.specs.Placing.{share_length}
+use Rattle.zb_holding.specs.Placing.{share_length}
 use Rattle.zb_stripe.proofs.parity.lengths.Goals as goal
 
 pub loop-k-preserved : goal.loop-k-preserved

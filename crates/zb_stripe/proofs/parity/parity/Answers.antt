@@ -2,8 +2,8 @@ use Rattle.std.proofs.Common.{◌≡◌, ◌-◌, List, ℕ, get_or, bit_xor, ap
 use Rattle.std.specs.Prelude.{replicate}
 use Rattle.std.specs.Int.Bits.{xor_zero_l}
 use Rattle.std.proofs.lemmas.List.{take_at}
-use Rattle.zb_stripes.specs.Placing.{share_of}
-use Rattle.zb_stripes.specs.Exclusive.{xor_at}
+use Rattle.zb_holding.specs.Placing.{share_of}
+use Rattle.zb_holding.specs.Exclusive.{xor_at}
 use Rattle.zb_stripe.proofs.Making.{zero_at}
 use Rattle.zb_stripe.proofs.parity.parity.Goals as goal
 

@@ -1,7 +1,7 @@
 use Rattle.std.proofs.Common.{refl, ◌≡◌, ◌≤◌, ◌+◌, ◌-◌, ◌*◌, ap, ◌∙◌, min, length, get_or, bit_xor, List, ℕ, take, drop, rules, arith}
-use Rattle.zb_stripes.specs.Placing.{share_of}
-use Rattle.zb_stripes.proofs.Exclusives.{xor_step, get_or-xored_shorter}
-use Rattle.zb_stripes.proofs.Shares.{length-share_of}
+use Rattle.zb_holding.specs.Placing.{share_of}
+use Rattle.zb_holding.proofs.Exclusives.{xor_step, get_or-xored_shorter}
+use Rattle.zb_holding.proofs.Shares.{length-share_of}
 use Rattle.zb_stripe.proofs.Making.{slice_at}
 use Rattle.zb_stripe.proofs.parity.xor_stripe.Goals as goal
 

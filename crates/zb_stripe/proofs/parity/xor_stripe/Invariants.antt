@@ -1,6 +1,6 @@
 use Rattle.std.proofs.Common.{◌≡◌, ℕ, slice_index, bit_xor}
-use Rattle.zb_stripes.specs.Exclusive.{xor_at}
-use Rattle.zb_stripes.specs.Placing.{share_of}
+use Rattle.zb_holding.specs.Exclusive.{xor_at}
+use Rattle.zb_holding.specs.Placing.{share_of}
 use Rattle.zb_stripe.proofs.parity.xor_stripe.Given as goal
 
 abbrev pub invariant-loop-k : goal.invariant-loop-k

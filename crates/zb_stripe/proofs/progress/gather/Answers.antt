@@ -2,7 +2,7 @@ use Rattle.std.proofs.Common.{◌≡◌, ◌-◌, ◌∙◌, ap, subst, length, 
 use Rattle.std.proofs.lemmas.Result.{IfOk-weaker}
 use Rattle.zb_stripe.specs.Reading.{read_of, with_phase, sought, PhaseIsSound, AnswersIn}
 use Rattle.zb_stripe.specs.declared.progress.Phase.TheVariants.{Direct}
-use Rattle.zb_stripes.proofs.Exclusives.{length-xored}
+use Rattle.zb_holding.proofs.Exclusives.{length-xored}
 use Rattle.zb_stripe.proofs.Gained.{gather_others, gather_lengths, parity_phase}
 use Rattle.zb_stripe.proofs.progress.gather.Goals as goal
 

@@ -1,6 +1,6 @@
 use Rattle.std.proofs.Common.{◌≡◌, List, ℕ, length, ap, ◌∙◌, rules}
 use Rattle.std.proofs.lemmas.List.{take_at}
-use Rattle.zb_stripes.specs.Exclusive.{xored}
+use Rattle.zb_holding.specs.Exclusive.{xored}
 use Rattle.zb_stripe.proofs.progress.put_in.Goals as goal
 
 pub returns : goal.returns

@@ -1,7 +1,7 @@
 use Rattle.std.proofs.Common.{◌≡◌, ◌∙◌, ℕ, Bool, length, sym, ap, arith}
 use Rattle.std.proofs.lemmas.List.FromFn.{map-range_with_len_more, length-map-range_with_len}
-use Rattle.zb_stripes.specs.Placing.{frag_id, server_of}
-use Rattle.zb_stripes.specs.Holding.{is_away}
+use Rattle.zb_holding.specs.Placing.{frag_id, server_of}
+use Rattle.zb_holding.specs.Holding.{is_away}
 use Rattle.zb_stripe.proofs.read.out_indexes.Goals as goal
 
 pub loop-index-preserved : goal.loop-index-preserved

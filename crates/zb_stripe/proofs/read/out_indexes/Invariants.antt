@@ -1,7 +1,7 @@
 use Rattle.std.proofs.Common.{◌≡◌, map}
 use Rattle.std.specs.List.{range_with_len}
-use Rattle.zb_stripes.specs.Placing.{frag_id, server_of}
-use Rattle.zb_stripes.specs.Holding.{is_away}
+use Rattle.zb_holding.specs.Placing.{frag_id, server_of}
+use Rattle.zb_holding.specs.Holding.{is_away}
 use Rattle.zb_stripe.proofs.read.out_indexes.Given as goal
 
 abbrev pub invariant-loop-index : goal.invariant-loop-index

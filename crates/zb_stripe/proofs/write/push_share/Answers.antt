@@ -1,7 +1,7 @@
 use Rattle.std.proofs.Common.{◌*◌, ◌++◌, List, ℕ, refl, sym, ap, ◌∙◌}
 use Rattle.zb_types.specs.declared.ids.ServerId.{ServerId}
 use Rattle.zb_types.specs.declared.requests.Request.{Request}
-use Rattle.zb_stripes.specs.Placing.{share_length}
+use Rattle.zb_holding.specs.Placing.{share_length}
 use Rattle.zb_stripe.proofs.Making.{made_share}
 use Rattle.zb_stripe.proofs.write.push_share.Goals as goal
 

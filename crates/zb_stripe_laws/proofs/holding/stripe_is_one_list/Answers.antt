@@ -1,5 +1,5 @@
 use Rattle.std.proofs.Common.{◌-◌, sym, ◌∙◌, arith}
-use Rattle.zb_stripes.specs.Holding.{standing, away_at}
+use Rattle.zb_holding.specs.Holding.{standing, away_at}
 use Rattle.zb_stripe_laws.proofs.Away.{away_once}
 use Rattle.zb_stripe_laws.proofs.Agreeing.{stripe_agrees}
 use Rattle.zb_stripe_laws.proofs.holding.stripe_is_one_list.Goals as goal

@@ -2,8 +2,8 @@ use Rattle.std.proofs.Common.{[], subst, sym, ap, ◌∙◌, arith, ◌≡◌, �
 use Rattle.std.proofs.lemmas.Bool.{false≢true}
 use Rattle.zb_types.specs.declared.ids.ServerId.{ServerId}
 use Rattle.zb_types.specs.declared.ids.Ptr.{Ptr}
-use Rattle.zb_stripes.specs.Placing.{frag_id, server_of}
-use Rattle.zb_stripes.specs.Holding.{is_away}
+use Rattle.zb_holding.specs.Placing.{frag_id, server_of}
+use Rattle.zb_holding.specs.Holding.{is_away}
 use Rattle.std.specs.Prelude.{IfSome, IsSome}
 use Rattle.zb_stripe.specs.declared.read.Got.TheVariants as got
 use Rattle.zb_stripe.specs.Reading.{Reading, answered, first_lost}

@@ -2,8 +2,8 @@ use Rattle.std.proofs.Common.{◌-◌, ◌∷◌, ◌++◌, List, length, take, 
 use Rattle.std.proofs.lemmas.List.{take_all}
 use Rattle.zb_types.specs.declared.ids.ServerId.{ServerId}
 use Rattle.zb_types.specs.declared.requests.Request.{Request}
-use Rattle.zb_stripes.specs.Holding.{StripeHolds, standing, away_at}
-use Rattle.zb_stripes.specs.Carrying.{carried_all}
+use Rattle.zb_holding.specs.Holding.{StripeHolds, standing, away_at}
+use Rattle.zb_holding.specs.Carrying.{carried_all}
 use Rattle.zb_stripe.specs.declared.flush.Part.{Part}
 use Rattle.zb_stripe.specs.Writing.{part_requests}
 use Rattle.zb_stripe_laws.specs.PartAtWork.{PartAtWork, StripesDiffer}

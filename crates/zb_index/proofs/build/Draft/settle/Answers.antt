@@ -1,6 +1,6 @@
 use Rattle.std.proofs.Common.{◌+◌, Option, Some, sym, ◌∙◌, subst, arith}
 use Rattle.std.specs.Prelude.{if◌then◌else◌}
-use Rattle.zb_stripes.specs.Carrying.{same_frag}
+use Rattle.zb_holding.specs.Carrying.{same_frag}
 use Rattle.zb_slots.specs.declared.header.Header.{Header}
 use Rattle.zb_index.specs.Drafting.{AreOlderBelow, tidied}
 use Rattle.zb_index.specs.Free.{times}

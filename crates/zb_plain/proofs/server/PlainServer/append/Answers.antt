@@ -5,7 +5,7 @@ use Rattle.std.proofs.lemmas.Result.{on_ok_weaker, on_err_weaker, IfOk-weaker}
 use Rattle.std.proofs.lemmas.Map.Steps.{set_value_same}
 use Rattle.zb_types.specs.Order.{frag_cmp}
 use Rattle.zb_types.specs.declared.requests.Request.TheVariants as ask
-use Rattle.zb_stripes.specs.Carrying.{stands_after}
+use Rattle.zb_holding.specs.Carrying.{stands_after}
 use Rattle.zb_plain.specs.Standing.{Entries, fragment_of, stands_in}
 use Rattle.zb_plain.specs.Answering.{answer_to_append}
 use Rattle.zb_plain.proofs.Naming.{stands-is, put_by, after_put}

@@ -1,6 +1,6 @@
 use Rattle.std.proofs.Common.{Some, refl}
 use Rattle.zb_types.specs.declared.requests.Request.TheVariants as ask
-use Rattle.zb_stripes.specs.Fragments.{parity_fragment}
+use Rattle.zb_holding.specs.Fragments.{parity_fragment}
 use Rattle.zb_plain.specs.declared.kept.Kept.TheVariants.{Parity}
 use Rattle.zb_plain.proofs.Naming.{put_by, after_put}
 use Rattle.zb_plain.proofs.server.PlainServer.put_parity.Goals as goal

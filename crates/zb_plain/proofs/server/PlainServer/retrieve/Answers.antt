@@ -1,6 +1,6 @@
 use Rattle.std.proofs.Common.{◌≡◌, Some, sym, ap, subst, ◌∙◌, IfOk}
 use Rattle.std.specs.Prelude.{option_map}
-use Rattle.zb_stripes.specs.Carrying.{found}
+use Rattle.zb_holding.specs.Carrying.{found}
 use Rattle.zb_plain.specs.Standing.{Entries, fragment_of, stands_in}
 use Rattle.zb_plain.proofs.Naming.{stands-is}
 use Rattle.zb_plain.proofs.server.PlainServer.retrieve.Goals as goal

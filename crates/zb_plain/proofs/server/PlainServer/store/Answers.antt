@@ -1,7 +1,7 @@
 use Rattle.std.proofs.Common.{Some, refl, sym, ap, ◌∙◌}
 use Rattle.zb_types.specs.declared.requests.Request.TheVariants as ask
-use Rattle.zb_stripes.specs.Fragments.{share_fragment}
-use Rattle.zb_stripes.specs.Carrying.{stands_after}
+use Rattle.zb_holding.specs.Fragments.{share_fragment}
+use Rattle.zb_holding.specs.Carrying.{stands_after}
 use Rattle.zb_plain.specs.declared.kept.Kept.TheVariants.{Share}
 use Rattle.zb_plain.proofs.Naming.{stands_nothing, put_by, after_put}
 use Rattle.zb_plain.proofs.server.PlainServer.store.Goals as goal

@@ -5,7 +5,7 @@ use Rattle.std.proofs.lemmas.Nat.{div-add-mod', mul-le, mod_below}
 use Rattle.zb_types.specs.declared.ids.LogId.{LogId}
 use Rattle.zb_types.specs.declared.ids.ServerId.{ServerId}
 use Rattle.zb_types.specs.declared.ids.FragId.{FragId}
-use Rattle.zb_stripes.specs.Placing.{frag_id, server_of}
+use Rattle.zb_holding.specs.Placing.{frag_id, server_of}
 
 -- two numbers of a turn of n that leave one rest are one
 pub turn_once : (n a j k : ℕ) → j < n → k < n → (a + j) % n ≡ (a + k) % n → j ≡ k

@@ -4,7 +4,7 @@ use Rattle.std.proofs.lemmas.Bool.{cases_eq, eq-eqb, ne_eqb}
 use Rattle.std.specs.Int.Bits.{xor_self, xor_zero_l, xor_zero_r, xor_assoc}
 use Rattle.std.proofs.lemmas.Nat.{xor_comm}
 use Rattle.std.proofs.lemmas.List.{get_or_past}
-use Rattle.zb_stripes.specs.Exclusive.{xored, xor_at, list_at, greatest}
+use Rattle.zb_holding.specs.Exclusive.{xored, xor_at, list_at, greatest}
 
 pub xor_twice : (a b : ℕ) → bit_xor a (bit_xor a b) ≡ b
 xor_twice a b = sym (xor_assoc a a b) ∙ ap (λ z. bit_xor z b) (xor_self a) ∙ xor_zero_l b

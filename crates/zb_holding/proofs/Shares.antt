@@ -1,7 +1,7 @@
 -- Shares of a stripe's bytes, and ranges of them.
 use Rattle.std.proofs.Common.{◌≡◌, ℕ, ◌+◌, ◌-◌, ◌*◌, ◌<◌, ◌≤◌, min, List, ◌++◌, length, take, drop, get_or, sym, ap, ◌∙◌, arith}
 use Rattle.std.proofs.lemmas.List.{length-take, length-drop, get_or-take, get_or-drop, ext_get_or, take-take, take-append-drop, drop-take, drop-drop, take_min, drop_min}
-use Rattle.zb_stripes.specs.Placing.{share_length, share_of}
+use Rattle.zb_holding.specs.Placing.{share_length, share_of}
 
 pub length-share_of : (f : ℕ) (bytes : List ℕ) (k : ℕ) → length (share_of f bytes k) ≡ share_length f (length bytes) k
 length-share_of f bytes k = length-take f (drop (k * f) bytes) ∙ ap (min f) (length-drop (k * f) bytes)

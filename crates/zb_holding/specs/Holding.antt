@@ -3,9 +3,9 @@ use Rattle.std.specs.Prelude.{◌≡◌, ℕ, ◌-◌, ◌*◌, ◌<◌, ◌≤�
 use Rattle.zb_types.specs.declared.ids.LogId.{LogId}
 use Rattle.zb_types.specs.declared.ids.ServerId.{ServerId}
 use Rattle.zb_types.specs.declared.ids.FragId.{FragId}
-use Rattle.zb_stripes.specs.Fragments.{Fragment, share_fragment, parity_fragment}
-use Rattle.zb_stripes.specs.Placing.{share_length, share_of, frag_id, server_of}
-use Rattle.zb_stripes.specs.Exclusive.{xor_at, greatest}
+use Rattle.zb_holding.specs.Fragments.{Fragment, share_fragment, parity_fragment}
+use Rattle.zb_holding.specs.Placing.{share_length, share_of, frag_id, server_of}
+use Rattle.zb_holding.specs.Exclusive.{xor_at, greatest}
 
 -- what each server keeps under each name
 abbrev pub Maps : Type 0

@@ -1,7 +1,6 @@
 -- Lemmas on files whose bytes lie in blocks.
 pub mod Bytes
 pub mod Cutting
-pub mod Keys
 pub mod Kept
 pub mod Laid
 pub mod Reading

@@ -9,6 +9,7 @@ use Rattle.zb_types.specs.declared.calls.Reply.{Reply}
 use Rattle.zb_types.specs.declared.lines.Said.TheVariants.{Reply as Replied, Buffered}
 use Rattle.zb_types.specs.declared.lines.Outcome.{Outcome}
 use Rattle.zb_types.specs.declared.lines.Outcome.TheVariants.{Call as OfCall}
+use Rattle.zb_types.specs.Limits.{most_kept}
 use Rattle.zb_types.specs.Apply.{is_bufferable, applied, reply_to}
 use Rattle.zb_claims.specs.Text.{IsReply, line_text, report_text}
 use Rattle.zb_blocks.specs.Blocks.{StripesHold}
@@ -34,7 +35,7 @@ IsKept-call s shelf text call kept within few = record {
   text_waits = kept.text_waits;
 }
 
-IsKept-suc : (s : Seen) (shelf : SeenShelf) (text : List ℕ) (call : Call) → IsKept s shelf text → slice_get s.calls s.lined ≡ Some call → is_bufferable call ≡ true → s.due ≤ s.done → s.lined - s.done < 7 → IsKept (with_kept s) shelf (text ++ line_text (OfCall 1 (suc s.lined) Buffered))
+IsKept-suc : (s : Seen) (shelf : SeenShelf) (text : List ℕ) (call : Call) → IsKept s shelf text → slice_get s.calls s.lined ≡ Some call → is_bufferable call ≡ true → s.due ≤ s.done → s.lined - s.done + 1 < most_kept → IsKept (with_kept s) shelf (text ++ line_text (OfCall 1 (suc s.lined) Buffered))
 IsKept-suc s shelf text call kept is may idle few = record {
   sound = IsSound-kept s shelf.tree call kept.sound is may idle (omega (arith, few));
   within = kept.within;
@@ -45,7 +46,7 @@ IsKept-suc s shelf text call kept is may idle few = record {
 abbrev pub kept_at : Seen → ℕ → Seen
 kept_at s number = record s { lines = s.lines ++ OfCall 1 number Buffered ∷ []; lined = number }
 
-pub IsKept-kept : (s : Seen) (shelf : SeenShelf) (text more : List ℕ) (number : ℕ) → IsKept s shelf text → IsSomeAnd (slice_get s.calls s.lined) (λ call. is_bufferable call ≡ true) → s.due ≤ s.done → s.lined - s.done < 7 → number ≡ s.lined + 1 → more ≡ line_text (OfCall 1 number Buffered)
+pub IsKept-kept : (s : Seen) (shelf : SeenShelf) (text more : List ℕ) (number : ℕ) → IsKept s shelf text → IsSomeAnd (slice_get s.calls s.lined) (λ call. is_bufferable call ≡ true) → s.due ≤ s.done → s.lined - s.done + 1 < most_kept → number ≡ s.lined + 1 → more ≡ line_text (OfCall 1 number Buffered)
     → IsKept (kept_at s number) shelf (text ++ more)
 IsKept-kept s shelf text more number kept next idle few is text_is =
     let after : number ≡ suc s.lined = omega (arith, is) in
@@ -102,7 +103,7 @@ IsKept-same s shelf next text kept same holds = record {
 }
 
 -- seven calls are kept, so the next one isn't
-pub too_many : (s : Seen) (shelf : SeenShelf) (text : List ℕ) (due : ℕ) → IsKept s shelf text → 7 ≤ s.lined - s.done → NextWasFull s due
+pub too_many : (s : Seen) (shelf : SeenShelf) (text : List ℕ) (due : ℕ) → IsKept s shelf text → most_kept ≤ s.lined - s.done + 1 → NextWasFull s due
 too_many s shelf text due kept full call at_work is may =
     let o = kept.sound.calls_in_order in
     let many : length (open_numbers s.lines) ≡ s.lined - s.done = ap length o.kept ∙ length-numbers_from (suc s.done) (s.lined - s.done) in

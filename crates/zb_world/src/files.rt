@@ -9,11 +9,9 @@ use std::alloc::Global;
 use std::collections::BTreeMap;
 use std::marker::Model;
 use zb_blocks::Blocks;
-use zb_types::{ByteList, Fid, Geometry, Mem, NoMemory, Ptr};
+use zb_types::{ByteList, Fid, Geometry, MAX_FILE, Mem, NoMemory, Ptr};
 
 // The most bytes of a file.
-const MAX_FILE: usize = 67_108_864;
-
 /// A file: its length in bytes, and where its blocks stand, by number. A slot with no place is a hole.
 #[derive(Drop)]
 struct FileState {

@@ -12,10 +12,9 @@ use std::alloc::Global;
 use std::marker::Model;
 use zb_history::History;
 use zb_report::outcome;
-use zb_types::{ByteList, Call, Did, Geometry, Mem, NoMemory, Outcome, Reply, Said, Saw, TreeList};
-
-/// How many calls a client may keep.
-const MOST_KEPT: usize = 7;
+use zb_types::{
+    ByteList, Call, Did, Geometry, MOST_KEPT, Mem, NoMemory, Outcome, Reply, Said, Saw, TreeList,
+};
 
 const CLIENT: u8 = 1;
 
@@ -187,7 +186,7 @@ impl Ledger {
     fn keep(&mut self, alloc: Global) -> Mem<()>
         requires next { IsSomeAnd (slice_get self.old.calls self.old.lined) (λ call. is_bufferable call ≡ true) }
         requires idle { self.old.due ≤ self.old.done }
-        requires few { self.old.lined - self.old.done < MOST_KEPT }
+        requires few { self.old.lined - self.old.done + 1 < MOST_KEPT }
         ensures ok { OnOk result (KeepsOne self.old self.new) }
         ensures err { OnErr result (self.new ≡ self.old) }
     {
@@ -248,7 +247,7 @@ impl Ledger {
         let Some(call) = self.calls.get(self.lined) else {
             return Ok(false);
         };
-        if call.is_bufferable() && self.lined - self.done < MOST_KEPT {
+        if call.is_bufferable() && self.lined - self.done + 1 < MOST_KEPT {
             self.keep(alloc)?;
         } else {
             let due = self.lined + 1;

@@ -5,8 +5,6 @@ mod answers;
 mod files;
 mod ledger;
 mod shelf;
-#[cfg(test)]
-mod tests;
 mod world;
 
 pub use answers::{Halt, StartFault, Step};

@@ -13,12 +13,10 @@ use std::alloc::Global;
 use std::marker::Model;
 use zb_names::{Entry, NameFault, Names};
 use zb_types::{
-    Call, Fid, Geometry, Listed, Mem, NoMemory, Path, Refusal, Reply, TreeEntry, TreeList,
+    Call, Fid, Geometry, Listed, MAX_FILE, Mem, NoMemory, Path, Refusal, Reply, TreeEntry, TreeList,
 };
 
 // The most bytes of a file.
-const MAX_FILE: u64 = 67_108_864;
-
 /// The file tree: names, and the files that these number. Contracts see it as the plain tree, with the blocks of
 /// its files.
 #[derive(Drop)]
@@ -82,7 +80,7 @@ impl Shelf {
         if self.is_gone(fid) {
             return Some(Refusal::Gone);
         }
-        if end > MAX_FILE {
+        if end > MAX_FILE as u64 {
             return Some(Refusal::TooBig);
         }
         None

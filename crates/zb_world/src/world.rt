@@ -60,7 +60,7 @@ impl<O: Outside + Drop> World<O> {
     }
 
     /// One step of an actor: it answers a call, or keeps one. `Idle` comes exactly where the actor has no work, or is
-    /// none that takes steps.
+    /// another than the one client.
     ///
     /// After want of memory the world is as it was.
     pub fn step(&mut self, alloc: Global, actor: Node) -> Result<Step, Halt>
@@ -71,7 +71,7 @@ impl<O: Outside + Drop> World<O> {
         ensures cause { IfErr result (λ halt. halt ≡ Halt.NoMemory) }
         ensures err { OnErr result (self.new ≡ self.old) }
     {
-        if !matches!(actor, Node::Client(_)) {
+        if !matches!(actor, Node::Client(1)) {
             return Ok(Step::Idle);
         }
         if self.ledger.step(alloc)? {

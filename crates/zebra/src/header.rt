@@ -5,14 +5,11 @@ ghost use Rattle.zebra.specs.Moves.{tape, StillReads, HasCause};
 ghost use Rattle.zebra.specs.Headers.{HeadIs, HeadMoves, IsSystemOf, StillHeads, Heads};
 
 use crate::ending::Halted;
-use crate::source::Source;
+use crate::source::{PIECE, Source};
 use std::alloc::Global;
 use zb_outside::Outside;
 use zb_script::{Parsed, Script};
 use zb_types::{Geometry, Mem, NoMemory};
-
-/// Bytes that are taken at once.
-const PIECE: usize = 4_096;
 
 /// What the first line of a script is that says something.
 #[derive(Clone, Copy, PartialEq, Eq)]
@@ -32,6 +29,9 @@ fn fill<O: Outside + Drop>(alloc: Global, source: &mut Source, out: &mut O) -> R
     ensures prints { IsTrue O.tells → (O.meaning out.new).now.printed ≡ (O.meaning out.old).now.printed }
     ensures cause { HasCause result (O.streams out.old) (O.streams out.new) }
 {
+    if !source.wants_more() {
+        return Ok(());
+    }
     let mut piece = [0; PIECE];
     'takes: while source.wants_more() {
         let taken = out.take(&mut piece);

@@ -8,15 +8,12 @@ ghost use Rattle.zebra.specs.Running.{Start, IsRunning, GoesOn, HasStopped, IsBr
 
 use crate::ending::Halted;
 use crate::reading::{Ending, Next, next_row};
-use crate::source::Source;
+use crate::source::{PIECE, Source};
 use std::alloc::Global;
 use zb_outside::Outside;
 use zb_script::Script;
 use zb_types::{Failed, Node};
 use zb_world::{Step, World};
-
-/// Bytes that are taken at once.
-const PIECE: usize = 4_096;
 
 const CLIENT: u8 = 1;
 
@@ -32,6 +29,9 @@ fn fill<O: Outside + Drop>(
     ensures prints { IsTrue O.tells → (O.meaning world.new.out).now.printed ≡ (O.meaning world.old.out).now.printed }
     ensures cause { HasCause result (O.streams world.old.out) (O.streams world.new.out) }
 {
+    if !source.wants_more() {
+        return Ok(());
+    }
     let mut piece = [0; PIECE];
     'takes: while source.wants_more() {
         let taken = world.take(&mut piece);

@@ -7,6 +7,9 @@ use std::marker::Model;
 use zb_script::{MAX_LINE, line_end};
 use zb_types::{Failed, Mem, NoMemory};
 
+/// How many bytes are taken at once.
+pub const PIECE: usize = 4_096;
+
 /// The bytes of the script that were taken and not yet used.
 #[derive(Drop)]
 pub struct Source {

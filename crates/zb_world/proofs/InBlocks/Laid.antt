@@ -8,7 +8,7 @@ use Rattle.std.proofs.lemmas.Bool.{cases_Bool, cond_both, false≢true}
 use Rattle.std.proofs.lemmas.Option.{none-some, same_Some}
 use Rattle.zb_types.specs.Keyed.{look, put, replaced, without, changed}
 use Rattle.zb_types.specs.Tree.{stored, or_none}
-use Rattle.zb_world.proofs.InBlocks.Keys.{look-changed, changed-replaced, replaced_same}
+use Rattle.zb_types.proofs.KeyedLists.{look-changed, changed-replaced, replaced_same}
 use Rattle.zb_world.proofs.InBlocks.Kept.{places_same, shown_kept, laid_kept}
 use Rattle.zb_world.proofs.InBlocks.Shown.{length-shown_bytes}
 use Rattle.zb_world.specs.Files.{bytes_at, place_of, place_at, IsLaid, shown_bytes, SeenFiles, EachFile, shown_files}

@@ -2,7 +2,7 @@ use Rattle.std.proofs.Common.{ap, ◌∙◌, subst, sym}
 use Rattle.std.proofs.lemmas.Result.{on_ok_weaker, on_err_weaker}
 use Rattle.zb_types.specs.Bytes.{resized}
 use Rattle.zb_types.specs.Keyed.{look}
-use Rattle.zb_world.proofs.InBlocks.Keys.{lookup-look, set-replaced}
+use Rattle.zb_types.proofs.KeyedLists.{lookup-numbers, set_value-numbers}
 use Rattle.zb_world.proofs.InBlocks.Laid.{each_look, each_now, shown_changed, shown_unchanged, look_none, not_there}
 use Rattle.zb_world.specs.Files.{IsLaid, shown_files, EachFile}
 use Rattle.zb_world.specs.declared.files.FileState.{FileState}
@@ -11,12 +11,12 @@ use Rattle.zb_world.proofs.files.Files.truncate.Goals as goal
 pub returns-in_default-clause-ok : goal.returns-in_default-clause-ok
 returns-in_default-clause-ok c =
     let files = c.self.inside.files.entries in
-    absurd (not_there (look c.args.fid.0 (shown_files c.self.inside.block c.self.inside.store files)) (look_none c.self.inside.block c.self.inside.store files c.args.fid.0 (sym (lookup-look c.args.fid.0 files) ∙ sym c.in_default.ensures.value)) (rw (← c.self.view_is) at c.requires.there))
+    absurd (not_there (look c.args.fid.0 (shown_files c.self.inside.block c.self.inside.store files)) (look_none c.self.inside.block c.self.inside.store files c.args.fid.0 (sym (lookup-numbers c.args.fid.0 files) ∙ sym c.in_default.ensures.value)) (rw (← c.self.view_is) at c.requires.there))
 
 pub resize_file-requires-clause-laid : goal.resize_file-requires-clause-laid
 resize_file-requires-clause-laid c =
     let files = c.self.inside.files.entries in
-    each_look (IsLaid c.self.inside.block c.self.inside.store) files c.args.fid.0 c.in-Some.file.now c.self.invariant.each (sym (lookup-look c.args.fid.0 files) ∙ sym c.in-Some.ensures.value)
+    each_look (IsLaid c.self.inside.block c.self.inside.store) files c.args.fid.0 c.in-Some.file.now c.self.invariant.each (sym (lookup-numbers c.args.fid.0 files) ∙ sym c.in-Some.ensures.value)
 
 pub invariant_of-self-2 : goal.invariant_of-self-2
 invariant_of-self-2 c =
@@ -28,15 +28,15 @@ invariant_of-self-2 c =
       same_size = c.resize_file.ensures.size ∙ c.self.invariant.same_size;
       stripes_hold = c.resize_file.ensures.stripes;
       ordered = holds.4;
-      each = subst (EachFile (IsLaid c.self.inside.block c.resize_file.new.store)) (sym (holds.0 ∙ set-replaced c.args.fid.0 new files)) (each_now c.self.inside.block c.resize_file.ensures.others files c.self.invariant.each c.args.fid.0 new c.resize_file.ensures.laid);
+      each = subst (EachFile (IsLaid c.self.inside.block c.resize_file.new.store)) (sym (holds.0 ∙ set_value-numbers c.args.fid.0 new files)) (each_now c.self.inside.block c.resize_file.ensures.others files c.self.invariant.each c.args.fid.0 new c.resize_file.ensures.laid);
     }
 
 pub returns-clause-ok : goal.returns-clause-ok
 returns-clause-ok c =
     let files = c.self.inside.files.entries in
     let new : FileState = c.resize_file.new.file in
-    let there = sym (lookup-look c.args.fid.0 files) ∙ sym c.in-Some.ensures.value in
-    let now = (c.get_mut.follows.holds new).0 ∙ set-replaced c.args.fid.0 new files in
+    let there = sym (lookup-numbers c.args.fid.0 files) ∙ sym c.in-Some.ensures.value in
+    let now = (c.get_mut.follows.holds new).0 ∙ set_value-numbers c.args.fid.0 new files in
     rw (← c.self.view_is) (on_ok_weaker c.resize_file.result
     (λ shows. ap (shown_files c.self.inside.block c.resize_file.new.store) now
     ∙ shown_changed c.self.inside.block c.resize_file.ensures.others files c.self.invariant.each c.args.fid.0 new c.in-Some.file.now there (λ old. resized old c.args.length) shows)
@@ -46,8 +46,8 @@ pub returns-clause-err : goal.returns-clause-err
 returns-clause-err c =
     let files = c.self.inside.files.entries in
     let new : FileState = c.resize_file.new.file in
-    let there = sym (lookup-look c.args.fid.0 files) ∙ sym c.in-Some.ensures.value in
-    let now = (c.get_mut.follows.holds new).0 ∙ set-replaced c.args.fid.0 new files in
+    let there = sym (lookup-numbers c.args.fid.0 files) ∙ sym c.in-Some.ensures.value in
+    let now = (c.get_mut.follows.holds new).0 ∙ set_value-numbers c.args.fid.0 new files in
     rw (← c.self.view_is) (on_err_weaker c.resize_file.result
     (λ shows. ap (shown_files c.self.inside.block c.resize_file.new.store) now
     ∙ shown_unchanged c.self.inside.block c.resize_file.ensures.others files c.self.invariant.each c.args.fid.0 new c.in-Some.file.now there shows)

@@ -1,38 +1,12 @@
 ghost use Rattle.std.specs.Prelude.{IfOk};
 ghost use Rattle.zb_world.specs.Sound.{IsWithin};
 
-use crate::files::Files;
-use crate::{Step, World};
 use std::alloc::Global;
 use std::test::Fail;
 use zb_outside::MemOutside;
 use zb_report::tree;
-use zb_types::{ByteList, Call, Fid, Geometry, Mem, Node, Path};
-
-// The bytes from 129 on and the length of a file that has two letters at byte 130, is cut behind the first, and is then
-// extended; and the length once it is removed.
-fn gap(alloc: Global, geo: &Geometry) -> Mem<(ByteList, Option<u32>, Option<u32>)> {
-    let mut files = Files::new(alloc, geo)?;
-    let fid = Fid(7);
-    files.add(alloc, fid)?;
-    files.write(alloc, fid, 130, b"ab")?;
-    files.truncate(alloc, fid, 131)?;
-    files.truncate(alloc, fid, 134)?;
-    let bytes = files.read(alloc, fid, 129, 100)?;
-    let length = files.length(fid);
-    files.remove(fid);
-    Ok((bytes, length, files.length(fid)))
-}
-
-#[test]
-fn holes_and_extensions_read_as_zeros(rt: HostRuntime) -> Result<(), Fail> {
-    let geo = Geometry::new(3, 1, 256, 64, 32)?;
-    let (bytes, length, removed) = gap(rt.alloc(), &geo)?;
-    assert_eq!(rt; bytes.slice(), [0, b'a', 0, 0, 0].as_slice());
-    assert_eq!(rt; length, Some(134));
-    assert_eq!(rt; removed, None);
-    Ok(())
-}
+use zb_types::{ByteList, Call, Fid, Geometry, Node, Path};
+use zb_world::{Step, World};
 
 const REPORT: &[u8] =
     b"c1 1 done\nc1 2 fid 1\nc1 3 kept buffered\nc1 4 kept buffered\nc1 3 done\nc1 4 done\nc1 5 done\nc1 6 bytes \"el\"\nc1 7 done\nc1 8 file 1 3\nc1 9 fid 1\nc1 10 names e\nc1 11 done\nc1 12 dir\n";
@@ -86,7 +60,7 @@ fn world(alloc: Global) -> Result<World<MemOutside>, Fail> {
 // What a run came to.
 #[derive(Drop)]
 struct Ran {
-    steps: [Step; 2],
+    steps: [Step; 3],
     all: bool,
     updates: usize,
     reads: usize,
@@ -98,6 +72,7 @@ fn run(alloc: Global) -> Result<Ran, Fail> {
     let mut world = world(alloc)?;
     let steps = [
         world.step(alloc, Node::Client(1))?,
+        world.step(alloc, Node::Client(7))?,
         world.step(alloc, Node::Manager)?,
     ];
     let all = world.finish(alloc)?;
@@ -116,7 +91,7 @@ fn run(alloc: Global) -> Result<Ran, Fail> {
 #[test]
 fn each_kind_of_call_is_answered(rt: HostRuntime) -> Result<(), Fail> {
     let ran = run(rt.alloc())?;
-    assert_eq!(rt; ran.steps, [Step::Answered, Step::Idle]);
+    assert_eq!(rt; ran.steps, [Step::Answered, Step::Idle, Step::Idle]);
     assert_eq!(rt; (ran.all, ran.updates, ran.reads), (true, 7, 5));
     assert_eq!(rt; ran.tree.slice(), b"dir /e\n".as_slice());
     assert_eq!(rt; ran.world.count(), 12);

@@ -1,0 +1,5 @@
+//! Tests of the texts of scripts and reports.
+#![tactic(auto)]
+
+#[cfg(test)]
+mod report;

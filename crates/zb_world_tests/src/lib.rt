@@ -1,0 +1,5 @@
+//! Tests of the world, which call each of its public calls.
+#![tactic(auto)]
+
+#[cfg(test)]
+mod world;

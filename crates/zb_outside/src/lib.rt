@@ -16,8 +16,6 @@ mod plate;
 mod platter_file;
 mod streams;
 mod synced;
-#[cfg(test)]
-mod tests;
 mod unsynced;
 
 pub use bay::Bay;

@@ -1,4 +1,4 @@
-use crate::{CellFault, get, set};
+use zb_cell::{CellFault, get, set};
 use zb_outside::{Bay, Fused, MemOutside};
 use zb_types::Failed;
 

@@ -1,5 +1,5 @@
-use crate::{Bay, FileOutside, Fused, MemOutside, Outside};
 use std::io;
+use zb_outside::{Bay, FileOutside, Fused, MemOutside, Outside};
 use zb_types::Failed;
 
 // Prints what one take gives.

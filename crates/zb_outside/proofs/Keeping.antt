@@ -22,10 +22,10 @@ run_keeps p Q Inv a b run kept = record {
 }
 
 pub take_keeps : TakeKeeps
-take_keeps buf r before after Inv a b took at_end = record { time = weaker at_end.holds took.time; remembers = took.remembers; at_end = at_end }
+take_keeps E buf r before after Inv a b took at_end = record { time = weaker at_end.holds took.time; remembers = took.remembers; at_end = at_end }
 
 pub put_keeps : PutKeeps
-put_keeps bytes r before after Inv a b put at_end = record { time = weaker at_end.holds put.time; remembers = put.remembers; at_end = at_end }
+put_keeps T E bytes r before after Inv a b put at_end = record { time = weaker at_end.holds put.time; remembers = put.remembers; at_end = at_end }
 
 pub each_keeps : EachKeeps
 each_keeps Inv a b start kept m since = each start.holds kept.time m since

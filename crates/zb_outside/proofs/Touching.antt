@@ -1,5 +1,7 @@
 -- How what calls leave alone goes on.
-use Rattle.std.proofs.Common.{◌≡◌, ◌≢◌, ℕ, ◌+◌, ◌≤◌, Bool, true, false, ◌||◌, refl, ◌∙◌, arith}
+use Rattle.std.proofs.Common.{◌≡◌, inl, inr, ℕ, ◌+◌, ◌≤◌, Bool, true, false, ◌||◌, refl, ◌∙◌, ap, arith}
+use Rattle.std.proofs.lemmas.Bool.{cases_eq}
+use Rattle.zb_outside.specs.Streams.{Streams}
 use Rattle.std.specs.Bool.{OnTrue}
 use Rattle.zb_outside.specs.Counts.{Counts, HasFault, SameAt, Touches, TouchesScript, TouchesReport, GoesOn}
 
@@ -58,3 +60,54 @@ module _ {B : Type 0} (counts : B → Counts) (leads : B → B → Type 0) where
     streams = h.streams;
     follows = h.follows;
   }
+
+  pub nothing_goes_on : ((a : B) → leads a a) → (a : B) → GoesOn counts leads a a
+  nothing_goes_on same a = record { faults = λ q. omega arith; full = λ q. omega arith; writes = λ q. omega arith; read_faults = omega arith; write_faults = omega arith; follows = same a }
+
+  pub goes_on_then : ((a b c : B) → leads a b → leads b c → leads a c) → {a b c : B} → GoesOn counts leads a b → GoesOn counts leads b c → GoesOn counts leads a c
+  goes_on_then join {a} {b} {c} f g = record {
+    faults = λ q. omega (arith, f.faults q, g.faults q);
+    full = λ q. omega (arith, f.full q, g.full q);
+    writes = λ q. omega (arith, f.writes q, g.writes q);
+    read_faults = omega (arith, f.read_faults, g.read_faults);
+    write_faults = omega (arith, f.write_faults, g.write_faults);
+    follows = join a b c f.follows g.follows;
+  }
+
+  -- a run on a platter, takes and puts are calls
+  pub touches_go_on : {p n : ℕ} {f : Bool} {a b : B} → Touches counts leads p n f a b → GoesOn counts leads a b
+  touches_go_on {p} {n} {f} {a} {b} h = record {
+    faults = λ q. elim (cases_eq q p) [ inl is ↦ rw is h.faults | inr ne ↦ omega (arith, (h.others q ne).faults) ];
+    full = λ q. elim (cases_eq q p) [ inl is ↦ rw is h.full | inr ne ↦ omega (arith, (h.others q ne).full) ];
+    writes = λ q. elim (cases_eq q p) [ inl is ↦ rw is h.writes | inr ne ↦ omega (arith, (h.others q ne).writes) ];
+    read_faults = omega (arith, ap (λ (s : Streams). s.read_faults) h.streams);
+    write_faults = omega (arith, ap (λ (s : Streams). s.write_faults) h.streams);
+    follows = h.follows;
+  }
+
+  pub script_goes_on : {f : Bool} {a b : B} → TouchesScript counts leads f a b → GoesOn counts leads a b
+  script_goes_on h = record {
+    faults = λ q. omega (arith, (h.platters q).faults);
+    full = λ q. omega (arith, (h.platters q).full);
+    writes = λ q. omega (arith, (h.platters q).writes);
+    read_faults = h.read_faults;
+    write_faults = omega (arith, h.write_faults);
+    follows = h.follows;
+  }
+
+  pub report_goes_on : {f : Bool} {a b : B} → TouchesReport counts leads f a b → GoesOn counts leads a b
+  report_goes_on h = record {
+    faults = λ q. omega (arith, (h.platters q).faults);
+    full = λ q. omega (arith, (h.platters q).full);
+    writes = λ q. omega (arith, (h.platters q).writes);
+    read_faults = omega (arith, h.read_faults);
+    write_faults = h.write_faults;
+    follows = h.follows;
+  }
+
+  -- a fault of a part of a run is one of the whole
+  pub fault_then : (p : ℕ) (a b c : B) → HasFault p (counts a) (counts b) → GoesOn counts leads b c → HasFault p (counts a) (counts c)
+  fault_then p a b c fault h = omega (arith, fault, h.faults p, h.full p)
+
+  pub then_fault : (p : ℕ) (a b c : B) → GoesOn counts leads a b → HasFault p (counts b) (counts c) → HasFault p (counts a) (counts c)
+  then_fault p a b c h fault = omega (arith, h.faults p, fault)

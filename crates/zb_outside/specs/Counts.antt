@@ -63,6 +63,10 @@ pub record GoesOn {B : Type 0} (counts : B → Counts) (leads : B → B → Type
 abbrev pub raised : ℕ → ℕ
 raised n = max n (min (n + 1) (2 ^ 64 - 1))
 
+-- 1 where a count of 64 bits stands at its last value, and else 0
+abbrev pub at_last : ℕ → ℕ
+at_last n = n + 1 - (2 ^ 64 - 1)
+
 -- this count is one higher, and the others are the same
 pub record Raises (p : ℕ) (old new : ℕ → ℕ) : Type 0 where
   pub one : new p ≡ raised (old p)

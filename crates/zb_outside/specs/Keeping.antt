@@ -29,11 +29,11 @@ RunKeeps = (p : ℕ) (Q : List ℕ → Type 0) (Inv : Moment → Type 0) (a b : 
 
 -- a take keeps what its end has
 abbrev pub TakeKeeps : Type 1
-TakeKeeps = {E : Type 0} (buf : List ℕ) (r : Result ℕ E) (before after : Streams) (Inv : Moment → Type 0) (a b : Meaning) → TakeTold buf r before after a b → Holds Inv b.now → Keeps Inv a b
+TakeKeeps = (E : Type 0) (buf : List ℕ) (r : Result ℕ E) (before after : Streams) (Inv : Moment → Type 0) (a b : Meaning) → TakeTold buf r before after a b → Holds Inv b.now → Keeps Inv a b
 
 -- a put keeps what its end has
 abbrev pub PutKeeps : Type 1
-PutKeeps = {T E : Type 0} (bytes : List ℕ) (r : Result T E) (before after : Streams) (Inv : Moment → Type 0) (a b : Meaning) → PutTold bytes r before after a b → Holds Inv b.now → Keeps Inv a b
+PutKeeps = (T E : Type 0) (bytes : List ℕ) (r : Result T E) (before after : Streams) (Inv : Moment → Type 0) (a b : Meaning) → PutTold bytes r before after a b → Holds Inv b.now → Keeps Inv a b
 
 -- what holds at the start and is kept holds at each moment since the start
 abbrev pub EachKeeps : Type 1

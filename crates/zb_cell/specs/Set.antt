@@ -33,8 +33,3 @@ pub record IsReady (p at : ℕ) (is_open : Bool) (s : Standing) : Type 0 where
   pub settled : IsSettled p s
   pub within : at + 1 ≤ length (s.seen p)
   pub gate : is_open ≡ (slice_index (s.seen p) at == 1)
-
--- no count of another platter has moved, and this one's never falls
-pub record Others (p : ℕ) (old new : ℕ → ℕ) : Type 0 where
-  pub later : old p ≤ new p
-  pub others : (q : ℕ) → q ≢ p → new q ≡ old q

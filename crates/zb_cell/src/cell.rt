@@ -1,10 +1,10 @@
-ghost use Rattle.std.specs.Prelude.{◌≡◌, ◌≢◌, ◌↔◌, ◌≤◌, ◌<◌, ◌+◌, ◌^◌, ◌&&◌, ◌==◌, true, false, ℕ, List, length, None, Some, MatchOption, IsTrue, IfOk, OnOk, IsErrOf, slice_index};
-ghost use Rattle.zb_outside.specs.Streams.{Rose};
-ghost use Rattle.zb_outside.specs.Counts.{HasCause};
+ghost use Rattle.std.specs.Prelude.{◌≡◌, ◌≢◌, ◌↔◌, ◌≤◌, ◌<◌, ◌+◌, ◌^◌, ◌&&◌, ◌==◌, true, false, ℕ, List, length, None, Some, MatchOption, IsTrue, IfOk, OnOk, IsErrOf, is_err, slice_index};
+ghost use Rattle.zb_outside.specs.Counts.{Touches};
 ghost use Rattle.zb_outside.specs.Runs.{IsSettled, Held};
 ghost use Rattle.zb_cell.specs.Cell.{value, value_of, bytes_at, counts, following, window};
-ghost use Rattle.zb_cell.specs.Set.{SetTold, CloseTold, IsReady, Others};
+ghost use Rattle.zb_cell.specs.Set.{SetTold, CloseTold, IsReady};
 ghost use Rattle.zb_cell.specs.declared.cell.CellFault.TheVariants.{Blank, Stopped};
+ghost use Rattle.zb_cell.specs.Faults.{is_stopped};
 ghost use Rattle.zb_cell.specs.Work.{Works};
 
 use zb_outside::{Bay, write_synced};
@@ -87,10 +87,7 @@ fn close_gate<B: Bay>(bay: &mut B, platter: usize, place: u64, is_open: bool) ->
     requires platter { platter ≤ 255 }
     requires range { place + 1 ≤ 2 ^ 63 }
     ensures told { IsTrue B.tells → IsReady platter place is_open (B.meaning bay.old).now → CloseTold platter place result (B.meaning bay.old) (B.meaning bay.new) }
-    ensures cause { HasCause platter result (B.faults bay.old) (B.faults bay.new) }
-    ensures writes { (q : ℕ) → q ≢ platter → B.writes bay.new q ≡ B.writes bay.old q }
-    ensures streams { B.streams bay.new ≡ B.streams bay.old }
-    ensures follows { B.follows bay.old bay.new }
+    ensures touches { Touches B.counts B.follows platter 1 (is_err result) bay.old bay.new }
 {
     if !is_open {
         return Ok(());
@@ -113,11 +110,7 @@ pub fn set<B: Bay>(
     requires range { place + 128 ≤ 2 ^ 63 }
     ensures told { IsTrue B.tells → IsSettled platter (B.meaning bay.old).now → place + 128 ≤ length ((B.meaning bay.old).now.seen platter) → SetTold platter place payload.now result (B.meaning bay.old) (B.meaning bay.new) }
     ensures blank { IsErrOf result CellFault.Blank → ⊥ }
-    ensures stopped { IsErrOf result CellFault.Stopped → Rose (B.faults bay.old platter) (B.faults bay.new platter) }
-    ensures faults { Others platter (B.faults bay.old) (B.faults bay.new) }
-    ensures writes { (q : ℕ) → q ≢ platter → B.writes bay.new q ≡ B.writes bay.old q }
-    ensures streams { B.streams bay.new ≡ B.streams bay.old }
-    ensures follows { B.follows bay.old bay.new }
+    ensures touches { Touches B.counts B.follows platter 3 (is_stopped result) bay.old bay.new }
 {
     let mut bytes = [0; 128];
     bay.read_at(platter, place, &mut bytes)?;
@@ -162,11 +155,7 @@ pub fn get<B: Bay>(bay: &mut B, platter: usize, place: u64) -> Result<[u8; 40], 
     ensures told { IsTrue B.tells → Held platter (B.meaning bay.old) (B.meaning bay.new) }
     ensures value { IsTrue B.tells → IfOk result (λ payload. value ((B.meaning bay.old).now.seen platter) place ≡ Some payload) }
     ensures blank { IsTrue B.tells → IsErrOf result Blank → value ((B.meaning bay.old).now.seen platter) place ≡ None }
-    ensures stopped { IsErrOf result Stopped → Rose (B.faults bay.old platter) (B.faults bay.new platter) }
-    ensures faults { Others platter (B.faults bay.old) (B.faults bay.new) }
-    ensures writes { (q : ℕ) → B.writes bay.new q ≡ B.writes bay.old q }
-    ensures streams { B.streams bay.new ≡ B.streams bay.old }
-    ensures follows { B.follows bay.old bay.new }
+    ensures touches { Touches B.counts B.follows platter 0 (is_stopped result) bay.old bay.new }
 {
     let mut bytes = [0; 128];
     bay.read_at(platter, place, &mut bytes)?;

@@ -2,9 +2,9 @@
 use Rattle.std.proofs.Common.{◌≡◌, inl, inr, ℕ, ◌+◌, ◌-◌, ◌<◌, ◌≤◌, ◌==◌, Bool, true, false, if◌then◌else◌, List, [], ◌∷◌, ◌++◌, length, replicate, slice_index, refl, sym, ◌∙◌, ap, subst, arith}
 use Rattle.std.proofs.lemmas.List.{length-replicate, ext_get_or}
 use Rattle.std.proofs.lemmas.Bool.{cases_lt}
-use Rattle.zb_outside.specs.Ranges.{Torn, Written}
+use Rattle.zb_outside.specs.Ranges.{Torn, Written, torn_same}
 use Rattle.zb_devices.specs.Record.{overlaid, filled, chosen, stands, TornBy, MayLeave}
-use Rattle.zb_devices.specs.Images.{torn_same, torn_written, overlaid_written, seen_may_be_left}
+use Rattle.zb_devices.specs.Images.{torn_written, overlaid_written, seen_may_be_left}
 use Rattle.zb_devices.specs.declared.device.Event.{Event}
 
 -- what was written is determined

@@ -3,9 +3,9 @@ use Rattle.std.proofs.Common.{◌≡◌, inl, inr, ℕ, ◌+◌, ◌-◌, ◌<�
 use Rattle.std.proofs.lemmas.List.{get_or-take, get_or-drop, get_or_append_left, get_or-append_right, ext_get_or}
 use Rattle.std.proofs.lemmas.Bool.{cases_lt}
 use Rattle.std.proofs.lemmas.Bool.Decides.{nat_tests}
-use Rattle.zb_outside.specs.Ranges.{Torn}
+use Rattle.zb_outside.specs.Ranges.{Torn, torn_same}
 use Rattle.zb_devices.specs.Record.{PlatterState, overlaid, written, write_failed}
-use Rattle.zb_devices.specs.Images.{torn_same, torn_written, overlaid_written}
+use Rattle.zb_devices.specs.Images.{torn_written, overlaid_written}
 use Rattle.zb_devices.specs.Plates.{Saves, Shows, restored, undone, ranges_of}
 use Rattle.zb_devices.specs.declared.plate.Plate.{Plate}
 use Rattle.zb_devices.specs.declared.unsynced.Unsynced.{Unsynced}

@@ -1,6 +1,6 @@
 -- What callers see of an outside over files, a reader and a writer.
-use Rattle.std.specs.Prelude.{◌≡◌, ℕ, [], slice_index}
-use Rattle.zb_outside.specs.Streams.{Streams}
+use Rattle.std.specs.Prelude.{◌≡◌, [], slice_index}
+use Rattle.zb_outside.specs.Counts.{Counts, at_last}
 use Rattle.zb_devices.specs.declared.file_outside.FileOutside.{FileOutside}
 
 -- where the script comes from
@@ -11,15 +11,14 @@ reader_of outside = outside.reader
 abbrev pub writer_of : {F R W : Type 0} → FileOutside F R W → W
 writer_of outside = outside.writer
 
--- what is left isn't told
-abbrev pub counts_of : {F R W : Type 0} → FileOutside F R W → Streams
-counts_of outside = record { left = []; read_faults = outside.read_faults; write_faults = outside.write_faults }
-
-abbrev pub faults_of : {F R W : Type 0} → FileOutside F R W → ℕ → ℕ
-faults_of outside = slice_index outside.faults
-
-abbrev pub writes_of : {F R W : Type 0} → FileOutside F R W → ℕ → ℕ
-writes_of outside = slice_index outside.writes
+-- what is counted of an outside over files; what is left of the script isn't told
+abbrev pub counts_of : {F R W : Type 0} → FileOutside F R W → Counts
+counts_of outside = record {
+  faults = slice_index outside.faults;
+  full = λ p. at_last (slice_index outside.faults p);
+  writes = slice_index outside.writes;
+  streams = record { left = []; read_faults = outside.read_faults; write_faults = outside.write_faults };
+}
 
 -- nothing has changed but which files are open
 pub record SameButOpen {F R W : Type 0} (old new : FileOutside F R W) : Type 0 where

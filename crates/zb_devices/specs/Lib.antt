@@ -1,4 +1,5 @@
 pub mod Answers
+pub mod Faults
 pub mod FileOutside
 pub mod Images
 pub mod MemOutside

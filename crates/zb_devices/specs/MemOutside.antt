@@ -1,24 +1,24 @@
 -- What callers see of an outside in memory beside its meaning.
-use Rattle.std.specs.Prelude.{◌≡◌, ◌≤◌, ℕ, ◌+◌, ◌-◌, ◌^◌, min, Bool, ◌==◌, List, slice_index, refl}
+use Rattle.std.specs.Prelude.{◌≡◌, ◌≤◌, ℕ, ◌+◌, ◌-◌, ◌^◌, min, Bool, not, ◌==◌, List, slice_index, refl}
 use Rattle.std.specs.List.{list_any}
 use Rattle.std.proofs.Common.{◌∙◌, arith}
 use Rattle.zb_outside.specs.Meaning.{Meaning}
-use Rattle.zb_devices.specs.Memory.{meaning_of_device, streams_of_device, platter_of_device}
+use Rattle.zb_devices.specs.Memory.{meaning_of_device, counts_of_device, platter_of_device}
 use Rattle.zb_devices.specs.Record.{PlatterState}
-use Rattle.zb_outside.specs.Streams.{Streams}
+use Rattle.zb_outside.specs.Counts.{Counts}
 use Rattle.zb_devices.specs.declared.mem_outside.MemOutside.{MemOutside}
 
+-- what an outside tells
 abbrev pub meaning_of : MemOutside → Meaning
 meaning_of outside = meaning_of_device outside.device
 
-abbrev pub streams_of : MemOutside → Streams
-streams_of outside = streams_of_device outside.device
+-- what is counted of an outside
+abbrev pub counts_of : MemOutside → Counts
+counts_of outside = counts_of_device outside.device
 
-abbrev pub faults_of : MemOutside → ℕ → ℕ
-faults_of outside = slice_index outside.device.counts.faults
-
-abbrev pub writes_of : MemOutside → ℕ → ℕ
-writes_of outside = slice_index outside.device.counts.writes
+-- whether there is memory for the record
+abbrev pub is_recording : MemOutside → Bool
+is_recording outside = not outside.device.is_frozen
 
 -- how each platter stands: what a read gives, what its last sync left, the ranges written since, and its counts
 abbrev pub platter_of : MemOutside → ℕ → PlatterState
@@ -48,6 +48,7 @@ calls_of outside = outside.calls
 abbrev pub starved_of : MemOutside → ℕ
 starved_of outside = outside.device.starved
 
+-- the number of the next device call
 abbrev pub next_call : MemOutside → ℕ
 next_call outside = min (calls_of outside + 1) (2 ^ 64 - 1)
 
@@ -63,8 +64,10 @@ pub record MemFollows (old new : MemOutside) : Type 0 where
   pub restarts : restarts_of old ≤ restarts_of new
   pub starved : starved_of old ≤ starved_of new
 
+-- what no calls do
 pub mem_same : (a : MemOutside) → MemFollows a a
 mem_same a = record { failing = refl; choices = refl; calls = omega arith; restarts = omega arith; starved = omega arith }
 
+-- one run after another
 pub mem_then : (a b c : MemOutside) → MemFollows a b → MemFollows b c → MemFollows a c
 mem_then a b c f g = record { failing = g.failing ∙ f.failing; choices = g.choices ∙ f.choices; calls = omega (arith, f.calls, g.calls); restarts = omega (arith, f.restarts, g.restarts); starved = omega (arith, f.starved, g.starved) }

@@ -1,5 +1,5 @@
 -- What the record of an outside in memory says.
-use Rattle.std.specs.Prelude.{◌≡◌, ◌⊎◌, ℕ, ◌+◌, ◌-◌, ◌<◌, ◌≤◌, ◌==◌, if◌then◌else◌, List, [], ◌∷◌, ◌++◌, length, take, drop, replicate}
+use Rattle.std.specs.Prelude.{◌≡◌, ℕ, ◌+◌, ◌-◌, ◌≤◌, ◌==◌, if◌then◌else◌, List, [], ◌∷◌, ◌++◌, length, take, drop, replicate}
 use Rattle.zb_outside.specs.Meaning.{Moment, Standing, IsMoment}
 use Rattle.zb_outside.specs.Ranges.{Torn}
 use Rattle.zb_outside.specs.Counts.{raised}
@@ -126,30 +126,26 @@ pub record Tally : Type 0 where
   pub read_faults : ℕ
   pub write_faults : ℕ
 
--- what these events count
-abbrev pub tally_of : List Event → Tally
-tally_of es = record { faults = λ p. (stands es p).faults; writes = λ p. (stands es p).writes; read_faults = (flows es).read_faults; write_faults = (flows es).write_faults }
-
--- how all stands after these events, with these counts
-abbrev pub standing : List ℕ → List Event → Tally → Standing
-standing script es tally = record {
+-- how all stands after these events
+abbrev pub standing : List ℕ → List Event → Standing
+standing script es = record {
   seen = λ p. (stands es p).seen;
   may_leave = λ p. MayLeave (stands es p);
   taken = take (flows es).taken script;
   printed = (flows es).printed;
-  faults = tally.faults;
-  writes = tally.writes;
-  read_faults = tally.read_faults;
-  write_faults = tally.write_faults;
+  faults = λ p. (stands es p).faults;
+  writes = λ p. (stands es p).writes;
+  read_faults = (flows es).read_faults;
+  write_faults = (flows es).write_faults;
 }
 
 -- how all stood after k of the events
 abbrev pub stood : List ℕ → List Event → ℕ → Standing
-stood script es k = standing script (take k es) (tally_of (take k es))
+stood script es k = standing script (take k es)
 
--- a moment after one of the events from the t-th on, or now
-abbrev pub Since : List ℕ → List Event → Standing → ℕ → Moment → Type 0
-Since script es now t m = ((k : ℕ) × (t ≤ k) × (k < length es) × IsMoment (stood script es k) m) ⊎ ((t ≤ length es) × IsMoment now m)
+-- a moment after one of the events from the t-th on
+abbrev pub Since : List ℕ → List Event → ℕ → Moment → Type 0
+Since script es t m = (k : ℕ) × (t ≤ k) × (k ≤ length es) × IsMoment (stood script es k) m
 
 -- the counts are those of the record
 pub record IsTallied (es : List Event) (tally : Tally) : Type 0 where

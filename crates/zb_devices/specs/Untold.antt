@@ -1,7 +1,8 @@
 -- What stands where nothing is told.
-use Rattle.std.specs.Prelude.{[]}
+use Rattle.std.specs.Prelude.{true, []}
 use Rattle.zb_outside.specs.Meaning.{Standing, IsMoment, Meaning}
 
+-- nothing stands anywhere, and a crash may leave anything
 abbrev pub untold_now : Standing
 untold_now = record {
   seen = λ _. [];
@@ -14,10 +15,12 @@ untold_now = record {
   write_faults = 0;
 }
 
+-- what an outside that tells nothing tells
 abbrev pub untold : Meaning
 untold = record {
   now = untold_now;
   clock = 0;
+  is_recording = true;
   since = λ _ m. IsMoment untold_now m;
   counts_now = λ _ _ _ h. h;
   only_now = λ _ h. h;

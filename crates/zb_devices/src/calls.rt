@@ -1,15 +1,15 @@
 // The calls of a device in memory.
-ghost use Rattle.std.specs.Prelude.{◌≡◌, ◌≢◌, ◌⊎◌, ◌≤◌, ◌+◌, ◌-◌, ◌^◌, min, max, ℕ, Bool, true, false, IsTrue, if◌then◌else◌, length, slice_index, IfOk, IsErr, OnOk, OnErr};
-ghost use Rattle.zb_devices.specs.Answers.{Answers, Refuses, StreamAnswers};
-ghost use Rattle.zb_outside.specs.Counts.{HasCause, Raises, raised};
-ghost use Rattle.zb_devices.specs.Memory.{IsKept, meaning_of_device, streams_of_device, platter_of_device, FailsTake, FailsPut, Spoils};
+ghost use Rattle.std.specs.Prelude.{◌≡◌, ◌≢◌, ◌≤◌, ◌+◌, ◌^◌, ℕ, not, IsTrue, if◌then◌else◌, length, slice_index, IfOk, OnErr, is_err};
+ghost use Rattle.zb_outside.specs.Counts.{Raises, Touches, TouchesScript, TouchesReport, raised};
 ghost use Rattle.zb_outside.specs.Platters.{ReadTold, WriteTold, SyncTold, RestartTold, BlankTold};
-ghost use Rattle.zb_devices.specs.Record.{written, write_failed, failed, synced, restarted, blanked};
 ghost use Rattle.zb_outside.specs.Runs.{Held};
-ghost use Rattle.zb_outside.specs.Streams.{Rose, TakeTold, PutTold};
+ghost use Rattle.zb_outside.specs.Streams.{TakeTold, PutTold};
+ghost use Rattle.zb_devices.specs.Answers.{Answers, Refuses, StreamAnswers};
+ghost use Rattle.zb_devices.specs.Memory.{IsKept, meaning_of_device, counts_of_device, streams_of_device, platter_of_device, AnyFollows, FailsTake, FailsPut, Spoils};
+ghost use Rattle.zb_devices.specs.Record.{written, write_failed, failed, synced, restarted, blanked};
 
-use crate::counts::raise;
 use crate::device::Device;
+use zb_outside::raise;
 use zb_types::Failed;
 
 impl Device {
@@ -32,6 +32,7 @@ impl Device {
         ensures writes { self.new.counts.writes ≡ self.old.counts.writes }
         ensures streams { streams_of_device self.new ≡ streams_of_device self.old }
         ensures starved { self.new.starved ≡ self.old.starved }
+        ensures records { result ≡ not self.new.is_frozen }
         ensures noted { IsTrue result → platter_of_device self.new platter ≡ failed (platter_of_device self.old platter) }
         ensures others { (q : ℕ) → q ≢ platter → platter_of_device self.new q ≡ platter_of_device self.old q }
     {
@@ -55,6 +56,7 @@ impl Device {
         ensures writes { Raises platter (slice_index self.old.counts.writes) (slice_index self.new.counts.writes) }
         ensures streams { streams_of_device self.new ≡ streams_of_device self.old }
         ensures starved { self.new.starved ≡ self.old.starved }
+        ensures records { result ≡ not self.new.is_frozen }
         ensures noted { IsTrue result → platter_of_device self.new platter ≡ write_failed place (length bytes.now) (platter_of_device self.old platter) }
         ensures others { (q : ℕ) → q ≢ platter → platter_of_device self.new q ≡ platter_of_device self.old q }
     {
@@ -74,6 +76,7 @@ impl Device {
         ensures kept { IsKept self.new }
         ensures told { FailsTake self.old self.new }
         ensures starved { self.new.starved ≡ self.old.starved }
+        ensures records { result ≡ not self.new.is_frozen }
     {
         match self.note_take_fault() {
             Ok(()) => return true,
@@ -90,6 +93,7 @@ impl Device {
         ensures kept { IsKept self.new }
         ensures told { FailsPut self.old self.new }
         ensures starved { self.new.starved ≡ self.old.starved }
+        ensures records { result ≡ not self.new.is_frozen }
     {
         match self.note_put_fault() {
             Ok(()) => return true,
@@ -110,7 +114,7 @@ impl Device {
         ensures writes { self.new.counts.writes ≡ self.old.counts.writes }
         ensures streams { streams_of_device self.new ≡ streams_of_device self.old }
         ensures starved { self.old.starved ≤ self.new.starved }
-        ensures refuses { Refuses platter is_due self.old.starved self.new.starved (platter_of_device self.old) (platter_of_device self.new) (failed (platter_of_device self.old platter)) }
+        ensures refuses { Refuses platter is_due (not self.new.is_frozen) self.old.starved self.new.starved (platter_of_device self.old) (platter_of_device self.new) (failed (platter_of_device self.old platter)) }
     {
         let is_noted = self.fail(platter);
         self.starve(!is_due || !is_noted);
@@ -127,7 +131,7 @@ impl Device {
         ensures writes { Raises platter (slice_index self.old.counts.writes) (slice_index self.new.counts.writes) }
         ensures streams { streams_of_device self.new ≡ streams_of_device self.old }
         ensures starved { self.old.starved ≤ self.new.starved }
-        ensures refuses { Refuses platter is_due self.old.starved self.new.starved (platter_of_device self.old) (platter_of_device self.new) (write_failed place (length bytes.now) (platter_of_device self.old platter)) }
+        ensures refuses { Refuses platter is_due (not self.new.is_frozen) self.old.starved self.new.starved (platter_of_device self.old) (platter_of_device self.new) (write_failed place (length bytes.now) (platter_of_device self.old platter)) }
     {
         let is_noted = self.fail_write(platter, place, bytes);
         self.starve(!is_due || !is_noted);
@@ -146,11 +150,9 @@ impl Device {
         requires kept { IsKept self.old }
         ensures kept { IsKept self.new }
         ensures told { ReadTold platter place buf.new result (meaning_of_device self.old) (meaning_of_device self.new) }
-        ensures cause { HasCause platter result (slice_index self.old.counts.faults) (slice_index self.new.counts.faults) }
-        ensures writes { self.new.counts.writes ≡ self.old.counts.writes }
-        ensures streams { streams_of_device self.new ≡ streams_of_device self.old }
+        ensures touches { Touches counts_of_device AnyFollows platter 0 (is_err result) self.old self.new }
         ensures starved { self.old.starved ≤ self.new.starved }
-        ensures answers { Answers platter fails result self.old.starved self.new.starved (platter_of_device self.old) (platter_of_device self.new) (platter_of_device self.old platter) (failed (platter_of_device self.old platter)) }
+        ensures answers { Answers platter fails (not self.new.is_frozen) result self.old.starved self.new.starved (platter_of_device self.old) (platter_of_device self.new) (platter_of_device self.old platter) (failed (platter_of_device self.old platter)) }
     {
         if fails {
             self.refuse(platter, true);
@@ -173,11 +175,10 @@ impl Device {
         requires kept { IsKept self.old }
         ensures kept { IsKept self.new }
         ensures told { WriteTold platter place bytes.now result (meaning_of_device self.old) (meaning_of_device self.new) }
-        ensures cause { HasCause platter result (slice_index self.old.counts.faults) (slice_index self.new.counts.faults) }
-        ensures writes { Raises platter (slice_index self.old.counts.writes) (slice_index self.new.counts.writes) }
-        ensures streams { streams_of_device self.new ≡ streams_of_device self.old }
+        ensures touches { Touches counts_of_device AnyFollows platter 1 (is_err result) self.old self.new }
+        ensures counted { (counts_of_device self.new).writes platter ≡ raised ((counts_of_device self.old).writes platter) }
         ensures starved { self.old.starved ≤ self.new.starved }
-        ensures answers { Answers platter fails result self.old.starved self.new.starved (platter_of_device self.old) (platter_of_device self.new) (written place bytes.now (platter_of_device self.old platter)) (write_failed place (length bytes.now) (platter_of_device self.old platter)) }
+        ensures answers { Answers platter fails (not self.new.is_frozen) result self.old.starved self.new.starved (platter_of_device self.old) (platter_of_device self.new) (written place bytes.now (platter_of_device self.old platter)) (write_failed place (length bytes.now) (platter_of_device self.old platter)) }
     {
         if fails {
             self.refuse_write(platter, place, bytes, true);
@@ -198,11 +199,9 @@ impl Device {
         requires kept { IsKept self.old }
         ensures kept { IsKept self.new }
         ensures told { SyncTold platter result (meaning_of_device self.old) (meaning_of_device self.new) }
-        ensures cause { HasCause platter result (slice_index self.old.counts.faults) (slice_index self.new.counts.faults) }
-        ensures writes { self.new.counts.writes ≡ self.old.counts.writes }
-        ensures streams { streams_of_device self.new ≡ streams_of_device self.old }
+        ensures touches { Touches counts_of_device AnyFollows platter 0 (is_err result) self.old self.new }
         ensures starved { self.old.starved ≤ self.new.starved }
-        ensures answers { Answers platter fails result self.old.starved self.new.starved (platter_of_device self.old) (platter_of_device self.new) (synced (platter_of_device self.old platter)) (failed (platter_of_device self.old platter)) }
+        ensures answers { Answers platter fails (not self.new.is_frozen) result self.old.starved self.new.starved (platter_of_device self.old) (platter_of_device self.new) (synced (platter_of_device self.old platter)) (failed (platter_of_device self.old platter)) }
     {
         if fails {
             self.refuse(platter, true);
@@ -223,11 +222,9 @@ impl Device {
         requires kept { IsKept self.old }
         ensures kept { IsKept self.new }
         ensures told { RestartTold platter result (meaning_of_device self.old) (meaning_of_device self.new) }
-        ensures cause { HasCause platter result (slice_index self.old.counts.faults) (slice_index self.new.counts.faults) }
-        ensures writes { self.new.counts.writes ≡ self.old.counts.writes }
-        ensures streams { streams_of_device self.new ≡ streams_of_device self.old }
+        ensures touches { Touches counts_of_device AnyFollows platter 0 (is_err result) self.old self.new }
         ensures starved { self.old.starved ≤ self.new.starved }
-        ensures answers { Answers platter fails result self.old.starved self.new.starved (platter_of_device self.old) (platter_of_device self.new) (restarted choice (platter_of_device self.old platter)) (failed (platter_of_device self.old platter)) }
+        ensures answers { Answers platter fails (not self.new.is_frozen) result self.old.starved self.new.starved (platter_of_device self.old) (platter_of_device self.new) (restarted choice (platter_of_device self.old platter)) (failed (platter_of_device self.old platter)) }
     {
         if fails {
             self.refuse(platter, true);
@@ -248,11 +245,9 @@ impl Device {
         requires kept { IsKept self.old }
         ensures kept { IsKept self.new }
         ensures told { BlankTold platter result (meaning_of_device self.old) (meaning_of_device self.new) }
-        ensures cause { HasCause platter result (slice_index self.old.counts.faults) (slice_index self.new.counts.faults) }
-        ensures writes { self.new.counts.writes ≡ self.old.counts.writes }
-        ensures streams { streams_of_device self.new ≡ streams_of_device self.old }
+        ensures touches { Touches counts_of_device AnyFollows platter 0 (is_err result) self.old self.new }
         ensures starved { self.old.starved ≤ self.new.starved }
-        ensures answers { Answers platter fails result self.old.starved self.new.starved (platter_of_device self.old) (platter_of_device self.new) (blanked (platter_of_device self.old platter)) (failed (platter_of_device self.old platter)) }
+        ensures answers { Answers platter fails (not self.new.is_frozen) result self.old.starved self.new.starved (platter_of_device self.old) (platter_of_device self.new) (blanked (platter_of_device self.old platter)) (failed (platter_of_device self.old platter)) }
     {
         if fails {
             self.refuse(platter, true);
@@ -273,13 +268,9 @@ impl Device {
         ensures kept { IsKept self.new }
         ensures bound { IfOk result (λ n. n ≤ length buf.new) }
         ensures told { TakeTold buf.new result (streams_of_device self.old) (streams_of_device self.new) (meaning_of_device self.old) (meaning_of_device self.new) }
-        ensures cause { OnErr result (Rose self.old.counts.read_faults self.new.counts.read_faults) }
-        ensures later { self.old.counts.read_faults ≤ self.new.counts.read_faults }
-        ensures write_faults { self.new.counts.write_faults ≡ self.old.counts.write_faults }
-        ensures faults { self.new.counts.faults ≡ self.old.counts.faults }
-        ensures writes { self.new.counts.writes ≡ self.old.counts.writes }
+        ensures touches { TouchesScript counts_of_device AnyFollows (is_err result) self.old self.new }
         ensures starved { self.old.starved ≤ self.new.starved }
-        ensures answers { StreamAnswers fails result self.old.starved self.new.starved (platter_of_device self.old) (platter_of_device self.new) }
+        ensures answers { StreamAnswers fails (not self.new.is_frozen) result self.old.starved self.new.starved (platter_of_device self.old) (platter_of_device self.new) }
     {
         if fails {
             let is_noted = self.fail_take();
@@ -302,13 +293,9 @@ impl Device {
         ensures kept { IsKept self.new }
         ensures told { PutTold bytes.now result (streams_of_device self.old) (streams_of_device self.new) (meaning_of_device self.old) (meaning_of_device self.new) }
         ensures none { OnErr result ((meaning_of_device self.new).now.printed ≡ (meaning_of_device self.old).now.printed) }
-        ensures cause { OnErr result (Rose self.old.counts.write_faults self.new.counts.write_faults) }
-        ensures later { self.old.counts.write_faults ≤ self.new.counts.write_faults }
-        ensures read_faults { self.new.counts.read_faults ≡ self.old.counts.read_faults }
-        ensures faults { self.new.counts.faults ≡ self.old.counts.faults }
-        ensures writes { self.new.counts.writes ≡ self.old.counts.writes }
+        ensures touches { TouchesReport counts_of_device AnyFollows (is_err result) self.old self.new }
         ensures starved { self.old.starved ≤ self.new.starved }
-        ensures answers { StreamAnswers fails result self.old.starved self.new.starved (platter_of_device self.old) (platter_of_device self.new) }
+        ensures answers { StreamAnswers fails (not self.new.is_frozen) result self.old.starved self.new.starved (platter_of_device self.old) (platter_of_device self.new) }
     {
         if fails {
             let is_noted = self.fail_put();

@@ -1,17 +1,16 @@
-ghost use Rattle.std.specs.Prelude.{◌≡◌, ◌⊎◌, ◌<◌, ◌≤◌, ◌+◌, ◌-◌, ◌^◌, ◌==◌, min, max, ℕ, Bool, true, IsTrue, IfOk, OnOk, OnErr, IsErr, is_ok, if◌then◌else◌, [], length, slice_index};
+ghost use Rattle.std.specs.Prelude.{◌≡◌, ◌≤◌, ◌+◌, ◌-◌, ◌^◌, ◌==◌, min, true, IsTrue, IfOk, OnErr, is_ok, is_err, if◌then◌else◌, length};
 ghost use Rattle.std.specs.List.{list_any};
-ghost use Rattle.zb_devices.specs.Answers.{Answers, StreamAnswers};
-ghost use Rattle.zb_outside.specs.Counts.{HasCause, Raises};
-ghost use Rattle.zb_devices.specs.Memory.{IsKept, AllEmpty};
+ghost use Rattle.zb_outside.specs.Counts.{Touches, TouchesScript, TouchesReport, raised};
 ghost use Rattle.zb_outside.specs.Platters.{ReadTold, WriteTold, SyncTold, RestartTold, BlankTold};
+ghost use Rattle.zb_outside.specs.Streams.{TakeTold, PutTold};
+ghost use Rattle.zb_devices.specs.Answers.{Answers, StreamAnswers};
+ghost use Rattle.zb_devices.specs.Memory.{IsKept, AllEmpty};
 ghost use Rattle.zb_devices.specs.Record.{written, write_failed, failed, synced, restarted, blanked};
-ghost use Rattle.zb_outside.specs.Streams.{TakeTold, PutTold, Rose};
 
-use crate::bay::Bay;
 use crate::device::{Counts, Device};
-use crate::outside::Outside;
 use crate::plate::Plate;
 use std::alloc::Global;
+use zb_outside::{Bay, Outside};
 use zb_types::{Failed, Mem};
 
 // Counts a device call, and says whether it is to fail.
@@ -61,9 +60,10 @@ impl MemOutside {
     /// platters leave.
     pub fn new(alloc: Global, script: &[u8], choices: &[u8], failing: &[u64]) -> Mem<MemOutside>
         ensures fresh { IfOk result (λ outside. IsFresh (⟦<MemOutside as Bay>⟧.meaning outside).now) }
-        ensures left { IfOk result (λ outside. (⟦<MemOutside as Bay>⟧.streams outside).left ≡ script.now) }
-        ensures read_faults { IfOk result (λ outside. (⟦<MemOutside as Bay>⟧.streams outside).read_faults ≡ 0) }
-        ensures write_faults { IfOk result (λ outside. (⟦<MemOutside as Bay>⟧.streams outside).write_faults ≡ 0) }
+        ensures left { IfOk result (λ outside. (⟦<MemOutside as Bay>⟧.counts outside).streams.left ≡ script.now) }
+        ensures read_faults { IfOk result (λ outside. (⟦<MemOutside as Bay>⟧.counts outside).streams.read_faults ≡ 0) }
+        ensures write_faults { IfOk result (λ outside. (⟦<MemOutside as Bay>⟧.counts outside).streams.write_faults ≡ 0) }
+        ensures recording { IfOk result (λ outside. IsTrue (⟦<MemOutside as Bay>⟧.meaning outside).is_recording) }
         ensures failing { IfOk result (λ outside. failing_of outside ≡ failing.now) }
         ensures choices { IfOk result (λ outside. choices_of outside ≡ choices.now) }
         ensures calls { IfOk result (λ outside. calls_of outside ≡ 0) }
@@ -124,18 +124,14 @@ impl MemOutside {
 }
 
 impl Bay for MemOutside {
-    ghost use Rattle.zb_devices.specs.MemOutside.{meaning_of, streams_of, faults_of, writes_of, platter_of, failing_of, choices_of, calls_of, restarts_of, starved_of, next_call, next_choice, is_due, MemFollows, mem_same, mem_then};
-    ghost use Rattle.std.specs.Prelude.{refl};
+    ghost use Rattle.zb_devices.specs.MemOutside.{meaning_of, counts_of, is_recording, platter_of, failing_of, choices_of, calls_of, restarts_of, starved_of, next_call, next_choice, is_due, MemFollows, mem_same, mem_then};
+    ghost use Rattle.zb_devices.specs.Memory.{exact_counts, exact_streams};
 
     ghost tells = { true };
 
     ghost meaning = { meaning_of };
 
-    ghost streams = { streams_of };
-
-    ghost faults = { faults_of };
-
-    ghost writes = { writes_of };
+    ghost counts = { counts_of };
 
     ghost is_exact = { true };
 
@@ -145,11 +141,8 @@ impl Bay for MemOutside {
         requires platter { platter ≤ 255 }
         requires range { place + length buf.old ≤ 2 ^ 63 }
         ensures told { ReadTold platter place buf.new result (meaning_of self.old) (meaning_of self.new) }
-        ensures cause { HasCause platter result (faults_of self.old) (faults_of self.new) }
-        ensures writes { (q : ℕ) → writes_of self.new q ≡ writes_of self.old q }
-        ensures streams { streams_of self.new ≡ streams_of self.old }
-        ensures follows { MemFollows self.old self.new }
-        ensures answers { Answers platter (is_due self.old) result (starved_of self.old) (starved_of self.new) (platter_of self.old) (platter_of self.new) (platter_of self.old platter) (failed (platter_of self.old platter)) }
+        ensures touches { Touches counts_of MemFollows platter 0 (is_err result) self.old self.new }
+        ensures answers { Answers platter (is_due self.old) (is_recording self.new) result (starved_of self.old) (starved_of self.new) (platter_of self.old) (platter_of self.new) (platter_of self.old platter) (failed (platter_of self.old platter)) }
         ensures calls { calls_of self.new ≡ next_call self.old }
         ensures restarts { restarts_of self.new ≡ restarts_of self.old }
     {
@@ -161,11 +154,9 @@ impl Bay for MemOutside {
         requires platter { platter ≤ 255 }
         requires range { place + length bytes.now ≤ 2 ^ 63 }
         ensures told { WriteTold platter place bytes.now result (meaning_of self.old) (meaning_of self.new) }
-        ensures cause { HasCause platter result (faults_of self.old) (faults_of self.new) }
-        ensures writes { Raises platter (writes_of self.old) (writes_of self.new) }
-        ensures streams { streams_of self.new ≡ streams_of self.old }
-        ensures follows { MemFollows self.old self.new }
-        ensures answers { Answers platter (is_due self.old) result (starved_of self.old) (starved_of self.new) (platter_of self.old) (platter_of self.new) (written place bytes.now (platter_of self.old platter)) (write_failed place (length bytes.now) (platter_of self.old platter)) }
+        ensures touches { Touches counts_of MemFollows platter 1 (is_err result) self.old self.new }
+        ensures counted { (counts_of self.new).writes platter ≡ raised ((counts_of self.old).writes platter) }
+        ensures answers { Answers platter (is_due self.old) (is_recording self.new) result (starved_of self.old) (starved_of self.new) (platter_of self.old) (platter_of self.new) (written place bytes.now (platter_of self.old platter)) (write_failed place (length bytes.now) (platter_of self.old platter)) }
         ensures calls { calls_of self.new ≡ next_call self.old }
         ensures restarts { restarts_of self.new ≡ restarts_of self.old }
     {
@@ -176,11 +167,8 @@ impl Bay for MemOutside {
     fn sync(&mut self, platter: usize) -> Result<(), Failed>
         requires platter { platter ≤ 255 }
         ensures told { SyncTold platter result (meaning_of self.old) (meaning_of self.new) }
-        ensures cause { HasCause platter result (faults_of self.old) (faults_of self.new) }
-        ensures writes { (q : ℕ) → writes_of self.new q ≡ writes_of self.old q }
-        ensures streams { streams_of self.new ≡ streams_of self.old }
-        ensures follows { MemFollows self.old self.new }
-        ensures answers { Answers platter (is_due self.old) result (starved_of self.old) (starved_of self.new) (platter_of self.old) (platter_of self.new) (synced (platter_of self.old platter)) (failed (platter_of self.old platter)) }
+        ensures touches { Touches counts_of MemFollows platter 0 (is_err result) self.old self.new }
+        ensures answers { Answers platter (is_due self.old) (is_recording self.new) result (starved_of self.old) (starved_of self.new) (platter_of self.old) (platter_of self.new) (synced (platter_of self.old platter)) (failed (platter_of self.old platter)) }
         ensures calls { calls_of self.new ≡ next_call self.old }
         ensures restarts { restarts_of self.new ≡ restarts_of self.old }
     {
@@ -191,29 +179,25 @@ impl Bay for MemOutside {
     fn restart(&mut self, platter: usize) -> Result<(), Failed>
         requires platter { platter ≤ 255 }
         ensures told { RestartTold platter result (meaning_of self.old) (meaning_of self.new) }
-        ensures cause { HasCause platter result (faults_of self.old) (faults_of self.new) }
-        ensures writes { (q : ℕ) → writes_of self.new q ≡ writes_of self.old q }
-        ensures streams { streams_of self.new ≡ streams_of self.old }
-        ensures follows { MemFollows self.old self.new }
-        ensures answers { Answers platter (is_due self.old) result (starved_of self.old) (starved_of self.new) (platter_of self.old) (platter_of self.new) (restarted (next_choice self.old) (platter_of self.old platter)) (failed (platter_of self.old platter)) }
+        ensures touches { Touches counts_of MemFollows platter 0 (is_err result) self.old self.new }
+        ensures answers { Answers platter (is_due self.old) (is_recording self.new) result (starved_of self.old) (starved_of self.new) (platter_of self.old) (platter_of self.new) (restarted (next_choice self.old) (platter_of self.old platter)) (failed (platter_of self.old platter)) }
         ensures calls { calls_of self.new ≡ next_call self.old }
         ensures restarts { restarts_of self.new ≡ (if is_ok result then min (restarts_of self.old + 1) (2 ^ 64 - 1) else restarts_of self.old) }
     {
         let fails = next_fails(&mut self.calls, &self.failing);
         let choice = self.choices.get(self.restarts).copied().unwrap_or(0);
-        self.device.restart(fails, platter, choice)?;
-        self.restarts = self.restarts.saturating_add(1);
-        Ok(())
+        let answer = self.device.restart(fails, platter, choice);
+        if answer.is_ok() {
+            self.restarts = self.restarts.saturating_add(1);
+        }
+        answer
     }
 
     fn blank(&mut self, platter: usize) -> Result<(), Failed>
         requires platter { platter ≤ 255 }
         ensures told { BlankTold platter result (meaning_of self.old) (meaning_of self.new) }
-        ensures cause { HasCause platter result (faults_of self.old) (faults_of self.new) }
-        ensures writes { (q : ℕ) → writes_of self.new q ≡ writes_of self.old q }
-        ensures streams { streams_of self.new ≡ streams_of self.old }
-        ensures follows { MemFollows self.old self.new }
-        ensures answers { Answers platter (is_due self.old) result (starved_of self.old) (starved_of self.new) (platter_of self.old) (platter_of self.new) (blanked (platter_of self.old platter)) (failed (platter_of self.old platter)) }
+        ensures touches { Touches counts_of MemFollows platter 0 (is_err result) self.old self.new }
+        ensures answers { Answers platter (is_due self.old) (is_recording self.new) result (starved_of self.old) (starved_of self.new) (platter_of self.old) (platter_of self.new) (blanked (platter_of self.old platter)) (failed (platter_of self.old platter)) }
         ensures calls { calls_of self.new ≡ next_call self.old }
         ensures restarts { restarts_of self.new ≡ restarts_of self.old }
     {
@@ -225,23 +209,18 @@ impl Bay for MemOutside {
 
     ghost follows_then = { mem_then };
 
-    ghost exact = { λ _ _ _. record { faults = λ _. refl; writes = λ _. refl } };
+    ghost exact = { λ b _ _ records. exact_counts b.device b.kept records };
 }
 
 impl Outside for MemOutside {
-    ghost use Rattle.zb_devices.specs.MemOutside.{meaning_of, streams_of, faults_of, writes_of, platter_of, calls_of, restarts_of, starved_of, next_call, is_due, MemFollows};
-    ghost use Rattle.std.specs.Prelude.{refl};
+    ghost use Rattle.zb_devices.specs.MemOutside.{meaning_of, counts_of, is_recording, platter_of, calls_of, restarts_of, starved_of, next_call, is_due, MemFollows};
+    ghost use Rattle.zb_devices.specs.Memory.{exact_counts, exact_streams};
 
     fn take(&mut self, buf: &mut [u8]) -> Result<usize, Failed>
         ensures bound { IfOk result (λ n. n ≤ length buf.new) }
-        ensures told { TakeTold buf.new result (streams_of self.old) (streams_of self.new) (meaning_of self.old) (meaning_of self.new) }
-        ensures cause { OnErr result (Rose (streams_of self.old).read_faults (streams_of self.new).read_faults) }
-        ensures later { (streams_of self.old).read_faults ≤ (streams_of self.new).read_faults }
-        ensures write_faults { (streams_of self.new).write_faults ≡ (streams_of self.old).write_faults }
-        ensures faults { (p : ℕ) → faults_of self.new p ≡ faults_of self.old p }
-        ensures writes { (p : ℕ) → writes_of self.new p ≡ writes_of self.old p }
-        ensures follows { MemFollows self.old self.new }
-        ensures answers { StreamAnswers (is_due self.old) result (starved_of self.old) (starved_of self.new) (platter_of self.old) (platter_of self.new) }
+        ensures told { TakeTold buf.new result (counts_of self.old).streams (counts_of self.new).streams (meaning_of self.old) (meaning_of self.new) }
+        ensures touches { TouchesScript counts_of MemFollows (is_err result) self.old self.new }
+        ensures answers { StreamAnswers (is_due self.old) (is_recording self.new) result (starved_of self.old) (starved_of self.new) (platter_of self.old) (platter_of self.new) }
         ensures calls { calls_of self.new ≡ next_call self.old }
         ensures restarts { restarts_of self.new ≡ restarts_of self.old }
     {
@@ -250,15 +229,10 @@ impl Outside for MemOutside {
     }
 
     fn put(&mut self, bytes: &[u8]) -> Result<(), Failed>
-        ensures told { PutTold bytes.now result (streams_of self.old) (streams_of self.new) (meaning_of self.old) (meaning_of self.new) }
+        ensures told { PutTold bytes.now result (counts_of self.old).streams (counts_of self.new).streams (meaning_of self.old) (meaning_of self.new) }
         ensures none { OnErr result ((meaning_of self.new).now.printed ≡ (meaning_of self.old).now.printed) }
-        ensures cause { OnErr result (Rose (streams_of self.old).write_faults (streams_of self.new).write_faults) }
-        ensures later { (streams_of self.old).write_faults ≤ (streams_of self.new).write_faults }
-        ensures read_faults { (streams_of self.new).read_faults ≡ (streams_of self.old).read_faults }
-        ensures faults { (p : ℕ) → faults_of self.new p ≡ faults_of self.old p }
-        ensures writes { (p : ℕ) → writes_of self.new p ≡ writes_of self.old p }
-        ensures follows { MemFollows self.old self.new }
-        ensures answers { StreamAnswers (is_due self.old) result (starved_of self.old) (starved_of self.new) (platter_of self.old) (platter_of self.new) }
+        ensures touches { TouchesReport counts_of MemFollows (is_err result) self.old self.new }
+        ensures answers { StreamAnswers (is_due self.old) (is_recording self.new) result (starved_of self.old) (starved_of self.new) (platter_of self.old) (platter_of self.new) }
         ensures calls { calls_of self.new ≡ next_call self.old }
         ensures restarts { restarts_of self.new ≡ restarts_of self.old }
     {
@@ -266,5 +240,5 @@ impl Outside for MemOutside {
         self.device.put(fails, bytes)
     }
 
-    ghost counted = { λ o _. record { read_faults = refl; write_faults = refl } };
+    ghost counted = { λ o _ records. exact_streams o.device o.kept records };
 }

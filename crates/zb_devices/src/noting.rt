@@ -6,8 +6,8 @@ ghost use Rattle.zb_devices.specs.Memory.{Keeps, IsKept, Noted, Same, Leaves};
 ghost use Rattle.zb_devices.specs.declared.device.Change.{Change};
 ghost use Rattle.zb_devices.specs.declared.device.Event.{Event};
 
-use crate::counts::raise;
 use crate::device::{Change, Device, Event};
+use zb_outside::raise;
 use zb_types::{Mem, NoMemory};
 
 // Copies as many bytes from that place on as there are and as there is room for.

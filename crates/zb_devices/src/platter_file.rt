@@ -20,12 +20,12 @@ fn sync_all(file: &File) -> Result<(), Failed> {
     file.sync_all().map_err(|_| Failed)
 }
 
-/// Opens the file of a platter, and makes it where there is none.
+/// Opens the file of a platter, or says that there is none.
 pub fn open_file<F: Files<File = File>>(
     files: &F,
     alloc: Global,
     platter: usize,
-) -> Result<File, Failed> {
+) -> Result<Option<File>, Failed> {
     let Ok(path) = format!(in alloc; "platter{platter}") else {
         return Err(Failed);
     };
@@ -34,18 +34,18 @@ pub fn open_file<F: Files<File = File>>(
         .write(true)
         .open(files, path.as_str())
     {
-        Ok(file) => Ok(file),
+        Ok(file) => Ok(Some(file)),
         Err(error) => {
             if error.kind() != ErrorKind::NotFound {
                 return Err(Failed);
             }
-            blank_file(files, alloc, platter)
+            Ok(None)
         }
     }
 }
 
-/// Makes the file of a platter anew, so that it and its name last.
-pub fn blank_file<F: Files<File = File>>(
+/// Makes the file of a platter anew. It isn't settled yet.
+pub fn create_file<F: Files<File = File>>(
     files: &F,
     alloc: Global,
     platter: usize,
@@ -55,14 +55,13 @@ pub fn blank_file<F: Files<File = File>>(
     };
     let mut how = OpenOptions::new();
     how.read(true).write(true).create(true).truncate(true);
-    match how.open(files, path.as_str()) {
-        Ok(file) => {
-            sync_all(&file)?;
-            sync_folder(files)?;
-            Ok(file)
-        }
-        Err(_) => Err(Failed),
-    }
+    how.open(files, path.as_str()).map_err(|_| Failed)
+}
+
+/// Makes a new file and its name last.
+pub fn settle_file<F: Files<File = File>>(files: &F, file: &File) -> Result<(), Failed> {
+    sync_all(file)?;
+    sync_folder(files)
 }
 
 /// Fills the buffer from that place on, and with zeros past the end.
@@ -91,8 +90,24 @@ pub fn read_file(file: &File, place: u64, buf: &mut [u8]) -> Result<(), Failed>
     Err(Failed)
 }
 
-/// Writes all of the bytes from that place on by one call of the system.
+// Makes the file end no earlier than there.
+fn extend_file(file: &File, end: u64) -> Result<(), Failed> {
+    match file.metadata() {
+        Ok(found) => {
+            if end <= found.len() {
+                return Ok(());
+            }
+            file.set_len(end).map_err(|_| Failed)
+        }
+        Err(_) => Err(Failed),
+    }
+}
+
+/// Writes all of the bytes from that place on by one call of the system, after zeros from the end up to there.
 pub fn write_file(file: &File, place: u64, bytes: &[u8]) -> Result<(), Failed> {
+    if bytes.is_empty() {
+        return extend_file(file, place);
+    }
     for _ in 0..u64::MAX {
         match file.write_at(bytes, place) {
             Ok(n) => {

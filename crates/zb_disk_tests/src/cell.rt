@@ -1,5 +1,6 @@
 use zb_cell::{CellFault, get, set};
-use zb_outside::{Bay, Fused, MemOutside};
+use zb_devices::MemOutside;
+use zb_outside::{Bay, Fused};
 use zb_types::Failed;
 
 // A settled platter 3 of 130 zeros, whose restart leaves what this choice says.

@@ -1,17 +1,17 @@
-use Rattle.std.proofs.Common.{refl, ap, arith, List, ◌≡◌, drop, slice_index}
+use Rattle.std.proofs.Common.{refl, ap, arith, List, ◌≡◌, drop}
 use Rattle.zb_outside.specs.Counts.{raised}
 use Rattle.zb_devices.specs.Record.{stands}
 use Rattle.zb_devices.specs.declared.device.Counts.{Counts}
 use Rattle.zb_devices.specs.declared.device.Event.{Event}
 use Rattle.zb_devices.specs.declared.device.Event.TheVariants.{TakeFault}
-use Rattle.zb_devices.proofs.Streamed.{fails_stream, steady_unheard}
+use Rattle.zb_devices.proofs.Streamed.{fails_stream, steady_frozen}
 use Rattle.zb_devices.proofs.device.Device.fail_take.Goals as goal
 
 pub returns-in-Ok-clause-told : goal.returns-in-Ok-clause-told
 returns-in-Ok-clause-told c =
     let e = c.in-Ok.ensures in
     record {
-      stream = fails_stream c.args.self.now c.note_take_fault.new.self TakeFault c.requires.kept e.kept e.noted (λ q s. refl) (λ f. refl) (λ f. refl) e.faults e.writes e.taken;
+      stream = fails_stream c.args.self.now c.note_take_fault.new.self TakeFault e.noted (λ q s. refl) (λ f. refl) (λ f. refl) e.faults e.writes e.taken;
       read_faults = e.read_faults;
       write_faults = e.write_faults;
     }
@@ -22,13 +22,7 @@ returns-clause-told c =
     let more : c.saturating_add-self.result ≡ raised c.args.self.now.counts.read_faults = omega (arith, c.saturating_add-self.ensures, ap (λ (x : Counts). x.read_faults) s.counts) in
     record {
       stream = record {
-        steady = steady_unheard c.args.self.now c.note_take_fault.new.self _ (record {
-          same = s;
-          faults = λ q. ap (λ (x : Counts). slice_index x.faults q) s.counts;
-          writes = λ q. ap (λ (x : Counts). slice_index x.writes q) s.counts;
-          read_faults = omega (arith, more);
-          write_faults = omega (arith, ap (λ (x : Counts). x.write_faults) s.counts);
-        });
+        steady = steady_frozen c.args.self.now c.note_take_fault.new.self s;
         left = λ i. drop (s.taken i) (s.script i);
         faults = ap (λ (x : Counts). x.faults) s.counts;
         writes = ap (λ (x : Counts). x.writes) s.counts;

@@ -7,7 +7,7 @@ use Rattle.zb_devices.proofs.device.Device.put.Goals as goal
 pub returns-in-Ok-clause-told : goal.returns-in-Ok-clause-told
 returns-in-Ok-clause-told c =
     let e = c.in-Ok.ensures in
-    put _ c.args.self.now c.note_put.new.self c.args.bytes.now e.noted.0 c.requires.kept e.kept e.noted.1 e.noted.2 e.faults e.writes e.leaves.taken
+    put _ c.args.self.now c.note_put.new.self c.args.bytes.now e.noted.0 e.noted.1 e.noted.2 e.leaves.taken
 
 pub returns-in-Ok-clause-answers : goal.returns-in-Ok-clause-answers
 returns-in-Ok-clause-answers c =
@@ -15,6 +15,7 @@ returns-in-Ok-clause-answers c =
     record {
       due = λ yes. absurd (false≢true (sym c.if-fails.false ∙ yes));
       fed = e.noted.2.starved;
+      noted = λ yes _. e.noted.2.starved;
       starves = tt;
       same = same_states c.args.self.now c.note_put.new.self (Printed e.noted.0) e.noted.2 (λ q s. refl);
     }

@@ -7,7 +7,7 @@ use Rattle.zb_devices.proofs.device.Device.take.Goals as goal
 pub returns-in-Ok-clause-told : goal.returns-in-Ok-clause-told
 returns-in-Ok-clause-told c =
     let e = c.in-Ok.ensures in
-    took c.args.self.now c.note_take.new.self c.in-Ok.n c.note_take.new.buf c.requires.kept e.kept e.noted e.faults e.writes e.count e.copied
+    took c.args.self.now c.note_take.new.self c.in-Ok.n c.note_take.new.buf c.requires.kept e.kept e.noted e.count e.copied
 
 pub returns-in-Ok-clause-answers : goal.returns-in-Ok-clause-answers
 returns-in-Ok-clause-answers c =
@@ -15,6 +15,7 @@ returns-in-Ok-clause-answers c =
     record {
       due = λ yes. absurd (false≢true (sym c.if-fails.false ∙ yes));
       fed = e.noted.starved;
+      noted = λ yes _. e.noted.starved;
       starves = tt;
       same = same_states c.args.self.now c.note_take.new.self (Took c.in-Ok.n) e.noted (λ q s. refl);
     }

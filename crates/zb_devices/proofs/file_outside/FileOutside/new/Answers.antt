@@ -1,4 +1,4 @@
-use Rattle.zb_devices.specs.Images.{zeros}
+use Rattle.zb_outside.specs.Ranges.{zeros}
 use Rattle.zb_devices.proofs.file_outside.FileOutside.new.Goals as goal
 
 pub returns-clause-faults : goal.returns-clause-faults

@@ -1,5 +1,5 @@
 use Rattle.std.proofs.Common.{refl, List, ap, take}
-use Rattle.zb_devices.specs.Images.{zeros}
+use Rattle.zb_outside.specs.Ranges.{zeros}
 use Rattle.zb_devices.specs.Record.{flows, stands}
 use Rattle.zb_devices.specs.declared.device.Event.{Event}
 use Rattle.zb_devices.proofs.Kept.{kept_first}
@@ -18,8 +18,8 @@ returns-clause-fresh c =
       may_leave = λ p image h. rw none at h;
       taken = ap (λ (l : List Event). take (flows l).taken c.in_ok-script.script.items) none;
       printed = ap (λ (l : List Event). (flows l).printed) none;
-      faults = λ p. zeros 256 p;
-      writes = λ p. zeros 256 p;
-      read_faults = refl;
-      write_faults = refl;
+      faults = λ p. ap (λ (l : List Event). (stands l p).faults) none;
+      writes = λ p. ap (λ (l : List Event). (stands l p).writes) none;
+      read_faults = ap (λ (l : List Event). (flows l).read_faults) none;
+      write_faults = ap (λ (l : List Event). (flows l).write_faults) none;
     }

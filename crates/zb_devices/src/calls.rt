@@ -1,6 +1,6 @@
 // The calls of a device in memory.
 ghost use Rattle.std.specs.Prelude.{◌≡◌, ◌≢◌, ◌≤◌, ◌+◌, ◌^◌, ℕ, not, IsTrue, if◌then◌else◌, length, slice_index, IfOk, OnErr, is_err};
-ghost use Rattle.zb_outside.specs.Counts.{Raises, Touches, TouchesScript, TouchesReport, raised};
+ghost use Rattle.zb_outside.specs.Counts.{Raises, Touches, TouchesScript, TouchesReport, HasWritten, raised};
 ghost use Rattle.zb_outside.specs.Platters.{ReadTold, WriteTold, SyncTold, RestartTold, BlankTold};
 ghost use Rattle.zb_outside.specs.Runs.{Held};
 ghost use Rattle.zb_outside.specs.Streams.{TakeTold, PutTold};
@@ -176,7 +176,7 @@ impl Device {
         ensures kept { IsKept self.new }
         ensures told { WriteTold platter place bytes.now result (meaning_of_device self.old) (meaning_of_device self.new) }
         ensures touches { Touches counts_of_device AnyFollows platter 1 (is_err result) self.old self.new }
-        ensures counted { (counts_of_device self.new).writes platter ≡ raised ((counts_of_device self.old).writes platter) }
+        ensures written { HasWritten platter 1 (counts_of_device self.old) (counts_of_device self.new) }
         ensures starved { self.old.starved ≤ self.new.starved }
         ensures answers { Answers platter fails (not self.new.is_frozen) result self.old.starved self.new.starved (platter_of_device self.old) (platter_of_device self.new) (written place bytes.now (platter_of_device self.old platter)) (write_failed place (length bytes.now) (platter_of_device self.old platter)) }
     {

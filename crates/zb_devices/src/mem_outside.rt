@@ -1,6 +1,6 @@
 ghost use Rattle.std.specs.Prelude.{◌≡◌, ◌≤◌, ◌+◌, ◌-◌, ◌^◌, ◌==◌, min, true, IsTrue, IfOk, OnErr, is_ok, is_err, if◌then◌else◌, length};
 ghost use Rattle.std.specs.List.{list_any};
-ghost use Rattle.zb_outside.specs.Counts.{Touches, TouchesScript, TouchesReport, raised};
+ghost use Rattle.zb_outside.specs.Counts.{Touches, TouchesScript, TouchesReport, HasWritten};
 ghost use Rattle.zb_outside.specs.Platters.{ReadTold, WriteTold, SyncTold, RestartTold, BlankTold};
 ghost use Rattle.zb_outside.specs.Streams.{TakeTold, PutTold};
 ghost use Rattle.zb_devices.specs.Answers.{Answers, StreamAnswers};
@@ -155,7 +155,7 @@ impl Bay for MemOutside {
         requires range { place + length bytes.now ≤ 2 ^ 63 }
         ensures told { WriteTold platter place bytes.now result (meaning_of self.old) (meaning_of self.new) }
         ensures touches { Touches counts_of MemFollows platter 1 (is_err result) self.old self.new }
-        ensures counted { (counts_of self.new).writes platter ≡ raised ((counts_of self.old).writes platter) }
+        ensures written { HasWritten platter 1 (counts_of self.old) (counts_of self.new) }
         ensures answers { Answers platter (is_due self.old) (is_recording self.new) result (starved_of self.old) (starved_of self.new) (platter_of self.old) (platter_of self.new) (written place bytes.now (platter_of self.old platter)) (write_failed place (length bytes.now) (platter_of self.old platter)) }
         ensures calls { calls_of self.new ≡ next_call self.old }
         ensures restarts { restarts_of self.new ≡ restarts_of self.old }

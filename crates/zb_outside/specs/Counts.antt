@@ -59,9 +59,17 @@ pub record GoesOn {B : Type 0} (counts : B → Counts) (leads : B → B → Type
   pub write_faults : (counts old).streams.write_faults ≤ (counts new).streams.write_faults
   pub follows : leads old new
 
+-- a count that is higher by n, up to the last value of a u64
+abbrev pub raised_by : ℕ → ℕ → ℕ
+raised_by n count = max count (min (count + n) (2 ^ 64 - 1))
+
 -- a count one higher, up to the last value of a u64
 abbrev pub raised : ℕ → ℕ
-raised n = max n (min (n + 1) (2 ^ 64 - 1))
+raised count = raised_by 1 count
+
+-- platter p was asked for n writes in between
+abbrev pub HasWritten : ℕ → ℕ → Counts → Counts → Type 0
+HasWritten p n old new = new.writes p ≡ raised_by n (old.writes p)
 
 -- 1 where a count of 64 bits stands at its last value, and else 0
 abbrev pub at_last : ℕ → ℕ

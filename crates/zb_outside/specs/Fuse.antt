@@ -4,7 +4,7 @@ use Rattle.std.proofs.Common.{refl, ◌∙◌, inl, inr, ⊎_elim, arith}
 use Rattle.std.proofs.lemmas.Bool.{cases_lt}
 use Rattle.zb_outside.specs.Meaning.{Meaning}
 use Rattle.zb_outside.specs.Ranges.{Written}
-use Rattle.zb_outside.specs.Counts.{Counts, HasFault, at_last, raised}
+use Rattle.zb_outside.specs.Counts.{Counts, HasFault, HasWritten, at_last}
 use Rattle.zb_outside.specs.declared.fused.Fused.{Fused}
 
 -- the device behind the fuses
@@ -45,7 +45,7 @@ all_counts counts f = record {
 
 -- the device was asked to write these bytes, and wrote them where it didn't fail itself
 pub record PassesWrite {B : Type 0} (tells : Bool) (p at : ℕ) (bytes : List ℕ) (meaning : B → Meaning) (counts : B → Counts) (old new : B) : Type 0 where
-  pub counted : (counts new).writes p ≡ raised ((counts old).writes p)
+  pub counted : HasWritten p 1 (counts old) (counts new)
   pub written : IsTrue tells → Written at bytes ((meaning old).now.seen p) ((meaning new).now.seen p) ⊎ HasFault p (counts old) (counts new)
 
 -- what no calls do

@@ -1,7 +1,7 @@
 ghost use Rattle.std.specs.Prelude.{◌≡◌, ◌≤◌, ◌+◌, ◌^◌, Bool, IsTrue, is_err, length};
 ghost use Rattle.zb_outside.specs.Meaning.{Meaning};
 ghost use Rattle.zb_outside.specs.Platters.{ReadTold, WriteTold, SyncTold, RestartTold, BlankTold};
-ghost use Rattle.zb_outside.specs.Counts.{Counts, Touches, AreExact, raised};
+ghost use Rattle.zb_outside.specs.Counts.{Counts, Touches, HasWritten, AreExact};
 
 use zb_types::Failed;
 
@@ -42,7 +42,7 @@ pub trait Bay {
         requires range { place + length bytes.now ≤ 2 ^ 63 }
         ensures told { IsTrue tells → WriteTold platter place bytes.now result (meaning self.old) (meaning self.new) }
         ensures touches { Touches counts follows platter 1 (is_err result) self.old self.new }
-        ensures counted { (counts self.new).writes platter ≡ raised ((counts self.old).writes platter) };
+        ensures written { HasWritten platter 1 (counts self.old) (counts self.new) };
 
     /// Makes what a read gives the one image that a crash may leave.
     fn sync(&mut self, platter: usize) -> Result<(), Failed>

@@ -1,6 +1,6 @@
 ghost use Rattle.std.specs.Prelude.{◌≡◌, ◌≢◌, ◌≤◌, ◌+◌, ◌-◌, ◌^◌, min, max, ℕ, false, IsTrue, IsErr, is_err, length};
 ghost use Rattle.zb_outside.specs.Platters.{ReadTold, WriteTold, SyncTold, RestartTold, BlankTold};
-ghost use Rattle.zb_outside.specs.Counts.{Touches, raised};
+ghost use Rattle.zb_outside.specs.Counts.{Touches, HasWritten};
 ghost use Rattle.zb_outside.specs.Fuse.{FuseFollows, PassesWrite, inner_of, left_of, raised_of, held_of, all_counts};
 
 use crate::bay::Bay;
@@ -105,7 +105,7 @@ impl<B: Bay> Bay for Fused<B> {
         requires range { place + length bytes.now ≤ 2 ^ 63 }
         ensures told { IsTrue B.tells → WriteTold platter place bytes.now result (B.meaning (inner_of self.old)) (B.meaning (inner_of self.new)) }
         ensures touches { Touches (all_counts B.counts) (FuseFollows B.counts B.follows) platter 1 (is_err result) self.old self.new }
-        ensures counted { (all_counts B.counts self.new).writes platter ≡ raised ((all_counts B.counts self.old).writes platter) }
+        ensures written { HasWritten platter 1 (all_counts B.counts self.old) (all_counts B.counts self.new) }
         ensures burns { left_of self.new platter ≡ max (min (left_of self.old platter) 1) (left_of self.old platter - 1) }
         ensures others { (q : ℕ) → q ≢ platter → left_of self.new q ≡ left_of self.old q }
         ensures blows { left_of self.old platter ≡ 2 → IsErr result }

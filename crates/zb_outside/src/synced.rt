@@ -1,6 +1,6 @@
 ghost use Rattle.std.specs.Prelude.{◌≡◌, ◌≤◌, ◌+◌, ◌^◌, IsTrue, is_err, length};
 ghost use Rattle.zb_outside.specs.Platters.{WriteSyncedTold};
-ghost use Rattle.zb_outside.specs.Counts.{Touches, raised};
+ghost use Rattle.zb_outside.specs.Counts.{Touches, HasWritten};
 ghost use Rattle.zb_outside.specs.Runs.{IsSettled};
 
 use crate::bay::Bay;
@@ -20,7 +20,7 @@ pub fn write_synced<B: Bay>(
     requires range { place + length bytes.now ≤ 2 ^ 63 }
     ensures told { IsTrue B.tells → IsSettled platter (B.meaning bay.old).now → WriteSyncedTold platter place bytes.now result (B.meaning bay.old) (B.meaning bay.new) }
     ensures touches { Touches B.counts B.follows platter 1 (is_err result) bay.old bay.new }
-    ensures counted { (B.counts bay.new).writes platter ≡ raised ((B.counts bay.old).writes platter) }
+    ensures written { HasWritten platter 1 (B.counts bay.old) (B.counts bay.new) }
 {
     bay.write_at(platter, place, bytes)?;
     bay.sync(platter)

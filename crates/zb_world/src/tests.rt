@@ -5,7 +5,7 @@ use crate::files::Files;
 use crate::{Step, World};
 use std::alloc::Global;
 use std::test::Fail;
-use zb_outside::MemOutside;
+use zb_devices::MemOutside;
 use zb_report::tree;
 use zb_types::{ByteList, Call, Fid, Geometry, Mem, Node, Path};
 

@@ -3,18 +3,25 @@ use Rattle.std.specs.Prelude.{◌≡◌, ◌≢◌, ◌⊎◌, ◌==◌, ◌+◌
 use Rattle.zb_outside.specs.Meaning.{Meaning, Standing}
 use Rattle.zb_outside.specs.Ranges.{SameBeside}
 use Rattle.zb_outside.specs.Runs.{Run, IsSettled}
-use Rattle.zb_cell.specs.Cell.{value}
+use Rattle.zb_cell.specs.Cell.{value, bytes_at, copy_for, turn_for, IsBody}
 
 -- the cell holds the former value or this one, and the other bytes are as before
 pub record FormerOrNew (place : ℕ) (payload old new : List ℕ) : Type 0 where
   pub outside : SameBeside place 128 old new
   pub either : (value new place ≡ value old place) ⊎ (value new place ≡ Some payload)
 
+-- the copy that a change of the old cell goes to is open and has this value and the turn due, and every other byte is as before
+pub record HoldsCopy (place : ℕ) (payload old new : List ℕ) : Type 0 where
+  pub gate : slice_index new (place + copy_for (bytes_at old place)) ≡ 1
+  pub body : IsBody (turn_for (bytes_at old place)) payload (bytes_at new (place + copy_for (bytes_at old place) + 1))
+  pub beside : SameBeside (place + copy_for (bytes_at old place)) 64 old new
+
 -- on the way the cell holds the former value or this one; after Ok it holds this one, and no write is unsynced
 pub record SetTold {T E : Type 0} (p place : ℕ) (payload : List ℕ) (result : Result T E) (old new : Meaning) : Type 0 where
   pub run : Run p (FormerOrNew place payload (old.now.seen p)) old new
   pub settled : OnOk result (IsSettled p new.now)
   pub value : OnOk result (value (new.now.seen p) place ≡ Some payload)
+  pub copy : OnOk result (HoldsCopy place payload (old.now.seen p) (new.now.seen p))
 
 -- the gate at this place is as it was, or closed
 pub record Closing (at : ℕ) (old new : List ℕ) : Type 0 where
@@ -33,8 +40,3 @@ pub record IsReady (p at : ℕ) (is_open : Bool) (s : Standing) : Type 0 where
   pub settled : IsSettled p s
   pub within : at + 1 ≤ length (s.seen p)
   pub gate : is_open ≡ (slice_index (s.seen p) at == 1)
-
--- no count of another platter has moved, and this one's never falls
-pub record Others (p : ℕ) (old new : ℕ → ℕ) : Type 0 where
-  pub later : old p ≤ new p
-  pub others : (q : ℕ) → q ≢ p → new q ≡ old q

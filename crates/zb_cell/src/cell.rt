@@ -1,10 +1,10 @@
-ghost use Rattle.std.specs.Prelude.{◌≡◌, ◌≢◌, ◌↔◌, ◌≤◌, ◌<◌, ◌+◌, ◌^◌, ◌&&◌, ◌==◌, true, false, ℕ, List, length, None, Some, MatchOption, IsTrue, IfOk, OnOk, IsErrOf, slice_index};
-ghost use Rattle.zb_outside.specs.Streams.{Rose};
-ghost use Rattle.zb_outside.specs.Counts.{HasCause};
+ghost use Rattle.std.specs.Prelude.{◌≡◌, ◌≢◌, ◌↔◌, ◌≤◌, ◌<◌, ◌+◌, ◌^◌, ◌&&◌, ◌==◌, true, false, if◌then◌else◌, ℕ, List, length, None, Some, MatchOption, IsTrue, IfOk, OnOk, IsErrOf, is_err, slice_index};
+ghost use Rattle.zb_outside.specs.Counts.{Touches, HasWritten, raised_by};
 ghost use Rattle.zb_outside.specs.Runs.{IsSettled, Held};
-ghost use Rattle.zb_cell.specs.Cell.{value, value_of, bytes_at, counts, following, window};
-ghost use Rattle.zb_cell.specs.Set.{SetTold, CloseTold, IsReady, Others};
+ghost use Rattle.zb_cell.specs.Cell.{value, value_of, bytes_at, counts, following, window, copy_for, turn_for, writes_for, IsBody};
+ghost use Rattle.zb_cell.specs.Set.{SetTold, CloseTold, IsReady};
 ghost use Rattle.zb_cell.specs.declared.cell.CellFault.TheVariants.{Blank, Stopped};
+ghost use Rattle.zb_cell.specs.Faults.{is_stopped};
 ghost use Rattle.zb_cell.specs.Work.{Works};
 
 use zb_outside::{Bay, write_synced};
@@ -51,7 +51,9 @@ fn next(turn: u8) -> u8
 }
 
 fn work_on(bytes: &[u8; 128]) -> Work
-    ensures { Works (slice_index bytes.now) result }
+    ensures works { Works (slice_index bytes.now) result }
+    ensures place { result.at ≡ copy_for (slice_index bytes.now) }
+    ensures turn { result.turn ≡ turn_for (slice_index bytes.now) }
 {
     let first = is_counted(bytes, 0);
     let second = is_counted(bytes, 64);
@@ -72,8 +74,7 @@ fn work_on(bytes: &[u8; 128]) -> Work
 // Bytes 1 to 63 of a copy.
 fn body(turn: u8, payload: &[u8; 40]) -> [u8; 63]
     ensures long { length result ≡ 63 }
-    ensures turn { slice_index result 0 ≡ turn }
-    ensures payload { (i : ℕ) → i < 40 → slice_index result (7 + i) ≡ slice_index payload.now i }
+    ensures body { IsBody turn payload.now (slice_index result) }
 {
     let mut bytes = [0; 63];
     bytes[0] = turn;
@@ -87,10 +88,9 @@ fn close_gate<B: Bay>(bay: &mut B, platter: usize, place: u64, is_open: bool) ->
     requires platter { platter ≤ 255 }
     requires range { place + 1 ≤ 2 ^ 63 }
     ensures told { IsTrue B.tells → IsReady platter place is_open (B.meaning bay.old).now → CloseTold platter place result (B.meaning bay.old) (B.meaning bay.new) }
-    ensures cause { HasCause platter result (B.faults bay.old) (B.faults bay.new) }
-    ensures writes { (q : ℕ) → q ≢ platter → B.writes bay.new q ≡ B.writes bay.old q }
-    ensures streams { B.streams bay.new ≡ B.streams bay.old }
-    ensures follows { B.follows bay.old bay.new }
+    ensures zero { IsTrue B.tells → IsReady platter place is_open (B.meaning bay.old).now → is_open ≡ true → OnOk result (slice_index ((B.meaning bay.new).now.seen platter) place ≡ 0) }
+    ensures touches { Touches B.counts B.follows platter 1 (is_err result) bay.old bay.new }
+    ensures written { HasWritten platter (if is_open then 1 else 0) (B.counts bay.old) (B.counts bay.new) }
 {
     if !is_open {
         return Ok(());
@@ -100,7 +100,7 @@ fn close_gate<B: Bay>(bay: &mut B, platter: usize, place: u64, is_open: bool) ->
 
 /// Puts a value into the cell of 128 bytes at this place. Where no write of the platter is unsynced and the cell lies
 /// within the platter, it holds at each moment the former value or this one, every other byte stays, and after Ok it holds
-/// this one with nothing unsynced.
+/// this one with nothing unsynced. It takes three writes, or two where the gate of the copy that is free is closed.
 ///
 /// `Stopped` comes only where a call of the platter failed.
 pub fn set<B: Bay>(
@@ -113,11 +113,9 @@ pub fn set<B: Bay>(
     requires range { place + 128 ≤ 2 ^ 63 }
     ensures told { IsTrue B.tells → IsSettled platter (B.meaning bay.old).now → place + 128 ≤ length ((B.meaning bay.old).now.seen platter) → SetTold platter place payload.now result (B.meaning bay.old) (B.meaning bay.new) }
     ensures blank { IsErrOf result CellFault.Blank → ⊥ }
-    ensures stopped { IsErrOf result CellFault.Stopped → Rose (B.faults bay.old platter) (B.faults bay.new platter) }
-    ensures faults { Others platter (B.faults bay.old) (B.faults bay.new) }
-    ensures writes { (q : ℕ) → q ≢ platter → B.writes bay.new q ≡ B.writes bay.old q }
-    ensures streams { B.streams bay.new ≡ B.streams bay.old }
-    ensures follows { B.follows bay.old bay.new }
+    ensures touches { Touches B.counts B.follows platter 3 (is_stopped result) bay.old bay.new }
+    ensures written { IsTrue B.tells → OnOk result (HasWritten platter (writes_for (bytes_at ((B.meaning bay.old).now.seen platter) place)) (B.counts bay.old) (B.counts bay.new)) }
+    ensures least { OnOk result (raised_by 2 ((B.counts bay.old).writes platter) ≤ (B.counts bay.new).writes platter) }
 {
     let mut bytes = [0; 128];
     bay.read_at(platter, place, &mut bytes)?;
@@ -162,11 +160,7 @@ pub fn get<B: Bay>(bay: &mut B, platter: usize, place: u64) -> Result<[u8; 40], 
     ensures told { IsTrue B.tells → Held platter (B.meaning bay.old) (B.meaning bay.new) }
     ensures value { IsTrue B.tells → IfOk result (λ payload. value ((B.meaning bay.old).now.seen platter) place ≡ Some payload) }
     ensures blank { IsTrue B.tells → IsErrOf result Blank → value ((B.meaning bay.old).now.seen platter) place ≡ None }
-    ensures stopped { IsErrOf result Stopped → Rose (B.faults bay.old platter) (B.faults bay.new platter) }
-    ensures faults { Others platter (B.faults bay.old) (B.faults bay.new) }
-    ensures writes { (q : ℕ) → B.writes bay.new q ≡ B.writes bay.old q }
-    ensures streams { B.streams bay.new ≡ B.streams bay.old }
-    ensures follows { B.follows bay.old bay.new }
+    ensures touches { Touches B.counts B.follows platter 0 (is_stopped result) bay.old bay.new }
 {
     let mut bytes = [0; 128];
     bay.read_at(platter, place, &mut bytes)?;

@@ -3,8 +3,6 @@
 
 mod cell;
 mod laws;
-#[cfg(test)]
-mod tests;
 
 pub use cell::{CellFault, get, set};
 pub use laws::cell_depends_on_its_bytes;

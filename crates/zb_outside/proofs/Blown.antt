@@ -2,9 +2,8 @@
 use Rattle.std.proofs.Common.{inr, ℕ, List, Result, Err, length, refl, sym, subst}
 use Rattle.zb_outside.specs.Meaning.{Meaning}
 use Rattle.zb_outside.specs.Platters.{ReadTold, WriteTold, SyncTold, RestartTold, BlankTold}
-use Rattle.zb_outside.specs.Ranges.{Torn}
+use Rattle.zb_outside.specs.Ranges.{Torn, torn_same}
 use Rattle.zb_outside.specs.Runs.{Held}
-use Rattle.zb_outside.specs.Images.{torn_same}
 use Rattle.zb_outside.proofs.Time.{ticks_same}
 
 pub read_held : {T E : Type 0} (p at : ℕ) (bytes : List ℕ) (e : E) (w : Meaning) → ReadTold {T = T} p at bytes (Err e) w w

@@ -1,9 +1,5 @@
 pub mod Blown
-pub mod Called
-pub mod Chosen
-pub mod Kept
-pub mod Plates
-pub mod Recorded
+pub mod Keeping
 pub mod Runs
-pub mod Streamed
 pub mod Time
+pub mod Touching

@@ -3,14 +3,11 @@ use Rattle.std.proofs.Common.{◌≡◌, inl, inr, ⊎_elim, ℕ, ◌≤◌, ◌
 use Rattle.std.proofs.lemmas.List.{get_or_past}
 use Rattle.std.proofs.lemmas.Bool.{cases_lt}
 use Rattle.std.proofs.lemmas.Result.{on_ok_weaker}
-use Rattle.zb_outside.specs.Counts.{HasCause}
 use Rattle.zb_outside.specs.Meaning.{Moment, Standing, IsMoment, Meaning}
 use Rattle.zb_outside.specs.Platters.{WriteTold, SyncTold, WriteSyncedTold}
-use Rattle.zb_outside.specs.Ranges.{Torn, Written, SameBeside}
+use Rattle.zb_outside.specs.Ranges.{Torn, Written, SameBeside, torn_same}
 use Rattle.zb_outside.specs.Runs.{Ticks, Spares, AtPlatter, Run, IsSettled}
-use Rattle.zb_outside.specs.Streams.{Rose}
 use Rattle.zb_outside.proofs.Time.{still, then, weaker, spares_same, forgets_none, remembers_then}
-use Rattle.zb_outside.specs.Images.{torn_same}
 
 pub spares_then : {p : ℕ} {a b c : Standing} → Spares p a b → Spares p b c → Spares p a c
 spares_then {p} {a} {b} {c} f s = record {
@@ -122,13 +119,6 @@ written_outside {at} {bytes} {old} {new} le w = record {
   same_length = omega (arith, w.size);
   same = λ i side. ⊎_elim (λ below. w.below i below) (λ above. w.above i above) side;
 }
-
-rose_from : (a b c : ℕ) → a ≤ b → Rose b c → Rose a c
-rose_from a b c le rose = omega (arith, le, rose)
-
-pub cause_then : {T E F : Type 0} {p : ℕ} {r : Result T E} {s : Result T F} {a b c : ℕ → ℕ} → HasCause p r a b → HasCause p s b c → HasCause p s a c
-cause_then {s = Ok x} f g = record { failed = tt; later = omega (arith, f.later, g.later); others = λ q ne. g.others q ne ∙ f.others q ne }
-cause_then {p = p} {s = Err e} {a = a} {b = b} {c = c} f g = record { failed = rose_from (a p) (b p) (c p) f.later g.failed; later = omega (arith, f.later, g.later); others = λ q ne. g.others q ne ∙ f.others q ne }
 
 pub outside_wider : {at n lo m : ℕ} {a b : List ℕ} → lo ≤ at → at + n ≤ lo + m → SameBeside at n a b → SameBeside lo m a b
 outside_wider {at} {n} {lo} {m} {a} {b} low high o = record {

@@ -1,6 +1,6 @@
 -- How runs of calls go on.
-use Rattle.std.proofs.Common.{inl, inr, ⊎_elim, ℕ, ◌≤◌, refl, ◌∙◌, arith}
-use Rattle.zb_outside.specs.Meaning.{Moment, Standing, IsMoment, Meaning, During, Recalls, Remembers}
+use Rattle.std.proofs.Common.{inl, inr, ⊎_elim, ℕ, ◌≤◌, refl, arith}
+use Rattle.zb_outside.specs.Meaning.{Moment, Standing, IsMoment, Meaning, During, Remembers}
 use Rattle.zb_outside.specs.Runs.{Ticks, AtPlatter, Spares}
 
 -- nothing has happened
@@ -38,29 +38,13 @@ spares_same p s = record {
   write_faults = refl;
 }
 
-pub recalls_same : (m : Moment) → Recalls m m
-recalls_same m = record { images = λ p. refl; taken = refl; printed = refl; faults = λ p. omega arith; writes = λ p. omega arith; read_faults = omega arith; write_faults = omega arith }
-
-pub recalls_then : {m n o : Moment} → Recalls m n → Recalls n o → Recalls m o
-recalls_then {m} {n} {o} f g = record {
-  images = λ p. g.images p ∙ f.images p;
-  taken = g.taken ∙ f.taken;
-  printed = g.printed ∙ f.printed;
-  faults = λ p. omega (arith, f.faults p, g.faults p);
-  writes = λ p. omega (arith, f.writes p, g.writes p);
-  read_faults = omega (arith, f.read_faults, g.read_faults);
-  write_faults = omega (arith, f.write_faults, g.write_faults);
-}
-
 pub forgets_none : (w : Meaning) → Remembers w w
-forgets_none w = record { kept = λ t m le h. (m, h, recalls_same m) }
+forgets_none w = record { kept = λ t m le h. h; recording = λ h. h }
 
 pub remembers_then : {a b c : Meaning} → a.clock ≤ b.clock → Remembers a b → Remembers b c → Remembers a c
 remembers_then {a} {b} {c} later f g = record {
-  kept = λ t m le h.
-      let first = f.kept t m le h in
-      let second = g.kept t first.0 (omega (arith, le, later)) first.1 in
-      (second.0, second.1, recalls_then first.2 second.2);
+  kept = λ t m le h. g.kept t m (omega (arith, le, later)) (f.kept t m le h);
+  recording = λ h. f.recording (g.recording h);
 }
 
 pub ticks_same : (p : ℕ) (w : Meaning) → Ticks p w w

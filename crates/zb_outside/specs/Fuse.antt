@@ -4,8 +4,7 @@ use Rattle.std.proofs.Common.{refl, ◌∙◌, inl, inr, ⊎_elim, arith}
 use Rattle.std.proofs.lemmas.Bool.{cases_lt}
 use Rattle.zb_outside.specs.Meaning.{Meaning}
 use Rattle.zb_outside.specs.Ranges.{Written}
-use Rattle.zb_outside.specs.Counts.{Raises}
-use Rattle.zb_outside.specs.Streams.{Rose}
+use Rattle.zb_outside.specs.Counts.{Counts, HasFault, HasWritten, at_last}
 use Rattle.zb_outside.specs.declared.fused.Fused.{Fused}
 
 -- the device behind the fuses
@@ -26,29 +25,32 @@ held_of f p = slice_index f.held p
 
 -- One that isn't armed stays so and fails nothing; one that is armed burns down by no more than the writes that came,
 -- and fails nothing before it has blown.
-pub record FuseFollows {B : Type 0} (writes : B → ℕ → ℕ) (follows : B → B → Type 0) (old new : Fused B) : Type 0 where
-  pub inner : follows old.inner new.inner
+pub record FuseFollows {B : Type 0} (counts : B → Counts) (leads : B → B → Type 0) (old new : Fused B) : Type 0 where
+  pub inner : leads old.inner new.inner
   pub off : (p : ℕ) → left_of old p ≡ 0 → (left_of new p ≡ 0) × (raised_of new p ≡ raised_of old p)
   pub on : (p : ℕ) → 1 ≤ left_of old p → (1 ≤ left_of new p) × (left_of new p ≤ left_of old p)
-  pub rises : (p : ℕ) → writes old.inner p ≤ writes new.inner p
-  pub burns : (p : ℕ) → 1 ≤ left_of old p → (left_of old p + writes old.inner p ≤ left_of new p + writes new.inner p) ⊎ (2 ^ 64 - 1 ≤ writes new.inner p)
+  pub rises : (p : ℕ) → (counts old.inner).writes p ≤ (counts new.inner).writes p
+  pub burns : (p : ℕ) → 1 ≤ left_of old p → (left_of old p + (counts old.inner).writes p ≤ left_of new p + (counts new.inner).writes p) ⊎ (2 ^ 64 - 1 ≤ (counts new.inner).writes p)
   pub blown : (p : ℕ) → 1 < left_of new p → raised_of new p ≡ raised_of old p
 
--- what failed at the device and at its fuses
-abbrev pub all_faults : {B : Type 0} → (B → ℕ → ℕ) → Fused B → ℕ → ℕ
-all_faults faults f p = faults f.inner p + raised_of f p
-
--- the writes that the device was asked for and those that were held back, up to the last value of a u64
-abbrev pub all_writes : {B : Type 0} → (B → ℕ → ℕ) → Fused B → ℕ → ℕ
-all_writes writes f p = min (writes f.inner p + held_of f p) (2 ^ 64 - 1)
+-- what is counted of the device and of its fuses: calls that failed at either, writes that the device was asked for or that
+-- were held back, up to the last value of a u64, and the streams of the device
+abbrev pub all_counts : {B : Type 0} → (B → Counts) → Fused B → Counts
+all_counts counts f = record {
+  faults = λ p. (counts f.inner).faults p + raised_of f p;
+  full = λ p. (counts f.inner).full p + at_last (raised_of f p);
+  writes = λ p. min ((counts f.inner).writes p + held_of f p) (2 ^ 64 - 1);
+  streams = (counts f.inner).streams;
+}
 
 -- the device was asked to write these bytes, and wrote them where it didn't fail itself
-pub record PassesWrite {B : Type 0} (tells : Bool) (p at : ℕ) (bytes : List ℕ) (meaning : B → Meaning) (faults writes : B → ℕ → ℕ) (old new : B) : Type 0 where
-  pub counted : Raises p (writes old) (writes new)
-  pub written : IsTrue tells → Written at bytes ((meaning old).now.seen p) ((meaning new).now.seen p) ⊎ Rose (faults old p) (faults new p)
+pub record PassesWrite {B : Type 0} (tells : Bool) (p at : ℕ) (bytes : List ℕ) (meaning : B → Meaning) (counts : B → Counts) (old new : B) : Type 0 where
+  pub counted : HasWritten p 1 (counts old) (counts new)
+  pub written : IsTrue tells → Written at bytes ((meaning old).now.seen p) ((meaning new).now.seen p) ⊎ HasFault p (counts old) (counts new)
 
-pub fuse_same : {B : Type 0} (writes : B → ℕ → ℕ) (follows : B → B → Type 0) → ((b : B) → follows b b) → (a : Fused B) → FuseFollows writes follows a a
-fuse_same writes follows same a = record {
+-- what no calls do
+pub fuse_same : {B : Type 0} (counts : B → Counts) (leads : B → B → Type 0) → ((b : B) → leads b b) → (a : Fused B) → FuseFollows counts leads a a
+fuse_same counts leads same a = record {
   inner = same a.inner;
   off = λ p h. (h, refl);
   on = λ p h. (h, omega arith);
@@ -57,8 +59,9 @@ fuse_same writes follows same a = record {
   blown = λ p h. refl;
 }
 
-pub fuse_then : {B : Type 0} (writes : B → ℕ → ℕ) (follows : B → B → Type 0) → ((a b c : B) → follows a b → follows b c → follows a c) → (a b c : Fused B) → FuseFollows writes follows a b → FuseFollows writes follows b c → FuseFollows writes follows a c
-fuse_then writes follows join a b c f g = record {
+-- one run after another
+pub fuse_then : {B : Type 0} (counts : B → Counts) (leads : B → B → Type 0) → ((a b c : B) → leads a b → leads b c → leads a c) → (a b c : Fused B) → FuseFollows counts leads a b → FuseFollows counts leads b c → FuseFollows counts leads a c
+fuse_then counts leads join a b c f g = record {
   inner = join a.inner b.inner c.inner f.inner g.inner;
   off = λ p h. let k = f.off p h in let m = g.off p k.0 in (m.0, m.1 ∙ k.1);
   on = λ p h. let k = f.on p h in let m = g.on p k.0 in (m.0, omega (arith, k.1, m.1));

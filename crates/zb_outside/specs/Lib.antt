@@ -1,15 +1,8 @@
-pub mod Answers
 pub mod Counts
-pub mod FileOutside
 pub mod Fuse
-pub mod Images
-pub mod MemOutside
+pub mod Keeping
 pub mod Meaning
-pub mod Memory
-pub mod Plates
 pub mod Platters
 pub mod Ranges
-pub mod Record
 pub mod Runs
 pub mod Streams
-pub mod Untold

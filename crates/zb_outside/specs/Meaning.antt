@@ -1,5 +1,5 @@
 -- What an outside means: how it stands, and the moments that it has been through.
-use Rattle.std.specs.Prelude.{◌≡◌, ◌⊎◌, ◌≤◌, ℕ, List, []}
+use Rattle.std.specs.Prelude.{◌≡◌, ◌⊎◌, ◌≤◌, ℕ, Bool, true, List, []}
 
 -- one image for each platter that a crash may leave, with what was taken, printed and counted by then
 pub record Moment : Type 0 where
@@ -37,6 +37,8 @@ pub record IsMoment (s : Standing) (m : Moment) : Type 0 where
 pub record Meaning : Type 1 where
   pub now : Standing
   pub clock : ℕ
+  -- there is memory for the record; once there is none, each put fails, and moments count no more faults
+  pub is_recording : Bool
   pub since : ℕ → Moment → Type 0
   -- the moments of now are among them, and are all since now
   pub counts_now : (t : ℕ) (m : Moment) → t ≤ clock → IsMoment now m → since t m
@@ -49,19 +51,10 @@ pub record During (P : Moment → Type 0) (old new : Meaning) : Type 0 where
   pub later : old.clock ≤ new.clock
   pub no_other : (t : ℕ) (m : Moment) → t ≤ old.clock → new.since t m → old.since t m ⊎ P m
 
--- the same images, bytes taken and bytes printed, and counts that are no lower
-pub record Recalls (m n : Moment) : Type 0 where
-  pub images : (p : ℕ) → n.images p ≡ m.images p
-  pub taken : n.taken ≡ m.taken
-  pub printed : n.printed ≡ m.printed
-  pub faults : (p : ℕ) → m.faults p ≤ n.faults p
-  pub writes : (p : ℕ) → m.writes p ≤ n.writes p
-  pub read_faults : m.read_faults ≤ n.read_faults
-  pub write_faults : m.write_faults ≤ n.write_faults
-
--- no moment is forgotten, but a device that has no memory left to note a count may round it up
+-- no moment is forgotten, and the record that once had no memory left has none
 pub record Remembers (old new : Meaning) : Type 0 where
-  pub kept : (t : ℕ) (m : Moment) → t ≤ old.clock → old.since t m → (n : Moment) × new.since t n × Recalls m n
+  pub kept : (t : ℕ) (m : Moment) → t ≤ old.clock → old.since t m → new.since t m
+  pub recording : new.is_recording ≡ true → old.is_recording ≡ true
 
 -- nothing was taken, printed or counted, and the platters are empty
 pub record IsFresh (now : Standing) : Type 0 where

@@ -1,5 +1,6 @@
 -- What a write does to the bytes of a platter, and what a crash may make of it.
-use Rattle.std.specs.Prelude.{◌≡◌, ◌⊎◌, ◌+◌, ◌<◌, ◌≤◌, max, ℕ, List, length, slice_index}
+use Rattle.std.specs.Prelude.{◌≡◌, ◌⊎◌, ◌+◌, ◌<◌, ◌≤◌, max, ℕ, zero, suc, List, length, replicate, slice_index, refl}
+use Rattle.std.proofs.Common.{arith}
 
 -- new may hold any bytes in a range of n and past the old end
 pub record Torn (at n : ℕ) (old new : List ℕ) : Type 0 where
@@ -23,3 +24,13 @@ Reads image at bytes = (i : ℕ) → i < length bytes → slice_index bytes i �
 pub record SameBeside (at n : ℕ) (old new : List ℕ) : Type 0 where
   pub same_length : length new ≡ length old
   pub same : (i : ℕ) → (i < at) ⊎ (at + n ≤ i) → slice_index new i ≡ slice_index old i
+
+-- a write that changed nothing
+pub torn_same : (at n : ℕ) (c : List ℕ) → Torn at n c c
+torn_same at n c = record { no_shorter = omega arith; no_longer = omega arith; below = λ i lt h. refl; above = λ i lt h. refl }
+
+-- a list of zeros has zeros, also past its end
+pub zeros : (n i : ℕ) → let z : ℕ = 0 in slice_index (replicate n z) i ≡ z
+zeros zero i = refl
+zeros (suc n) zero = refl
+zeros (suc n) (suc i) = zeros n i

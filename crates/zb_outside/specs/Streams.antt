@@ -1,5 +1,5 @@
 -- What taking bytes of the script and printing bytes of the report do.
-use Rattle.std.specs.Prelude.{◌≡◌, ◌<◌, ◌≤◌, ◌+◌, ◌-◌, ◌^◌, ◌↔◌, min, ℕ, List, [], ◌++◌, length, take, Result, MatchResult, IfOk}
+use Rattle.std.specs.Prelude.{◌≡◌, ◌<◌, ◌≤◌, ◌+◌, ◌-◌, ◌^◌, ◌↔◌, min, ℕ, true, List, [], ◌++◌, length, take, Result, MatchResult, IfOk, OnOk}
 use Rattle.zb_outside.specs.Meaning.{Standing, IsMoment, Meaning, During, Remembers}
 
 -- the bytes of the script that are left, where they are told, and how often a take and a put failed
@@ -7,10 +7,6 @@ pub record Streams : Type 0 where
   pub left : List ℕ
   pub read_faults : ℕ
   pub write_faults : ℕ
-
--- where there are no streams
-abbrev pub no_streams : Streams
-no_streams = record { left = []; read_faults = 0; write_faults = 0 }
 
 -- what moments count of the streams is what is told of them
 pub record AreCounted (now : Standing) (streams : Streams) : Type 0 where
@@ -34,7 +30,7 @@ pub record TakeTold {E : Type 0} (buf : List ℕ) (result : Result ℕ E) (befor
   pub printed : new.now.printed ≡ old.now.printed
   pub ends : IfOk result (λ n. 0 < length buf → (n ≡ 0) ↔ (before.left ≡ []))
 
--- all of the bytes were printed, or a front of them where it failed
+-- all of the bytes were printed, which are on record, or a front of them where it failed
 pub record PutTold {T E : Type 0} (bytes : List ℕ) (result : Result T E) (before after : Streams) (old new : Meaning) : Type 0 where
   pub time : During (IsMoment new.now) old new
   pub remembers : Remembers old new
@@ -42,6 +38,7 @@ pub record PutTold {T E : Type 0} (bytes : List ℕ) (result : Result T E) (befo
   pub printed : MatchResult result (λ _. new.now.printed ≡ old.now.printed ++ bytes) (λ _. (k : ℕ) × (new.now.printed ≡ old.now.printed ++ take k bytes))
   pub taken : new.now.taken ≡ old.now.taken
   pub left : after.left ≡ before.left
+  pub recorded : OnOk result (new.is_recording ≡ true)
 
 -- the count rose, or stands at the last value of a u64
 abbrev pub Rose : ℕ → ℕ → Type 0

@@ -1,9 +1,7 @@
-ghost use Rattle.std.specs.Prelude.{◌≡◌, ◌≢◌, ◌⊎◌, ◌≤◌, ◌<◌, ◌+◌, ◌-◌, ◌^◌, min, max, ℕ, Bool, false, IsTrue, IfOk, IsErr, OnOk, OnErr, length, slice_index};
+ghost use Rattle.std.specs.Prelude.{◌≡◌, ◌≢◌, ◌≤◌, ◌+◌, ◌-◌, ◌^◌, min, max, ℕ, false, IsTrue, IsErr, is_err, length};
 ghost use Rattle.zb_outside.specs.Platters.{ReadTold, WriteTold, SyncTold, RestartTold, BlankTold};
-ghost use Rattle.zb_outside.specs.Ranges.{Written};
-ghost use Rattle.zb_outside.specs.Counts.{HasCause, Raises};
-ghost use Rattle.zb_outside.specs.Streams.{Rose, TakeTold, PutTold};
-ghost use Rattle.zb_outside.specs.Fuse.{FuseFollows, PassesWrite, inner_of, left_of, raised_of, all_faults, all_writes};
+ghost use Rattle.zb_outside.specs.Counts.{Touches, HasWritten};
+ghost use Rattle.zb_outside.specs.Fuse.{FuseFollows, PassesWrite, inner_of, left_of, raised_of, held_of, all_counts};
 
 use crate::bay::Bay;
 use crate::counts::raise;
@@ -30,6 +28,7 @@ impl<B: Bay> Fused<B> {
         ensures inner { inner_of result ≡ inner }
         ensures not_armed { (p : ℕ) → left_of result p ≡ 0 }
         ensures raised { (p : ℕ) → raised_of result p ≡ 0 }
+        ensures held { (p : ℕ) → held_of result p ≡ 0 }
     {
         Fused {
             inner,
@@ -47,6 +46,7 @@ impl<B: Bay> Fused<B> {
         ensures others { (q : ℕ) → q ≢ platter → left_of self.new q ≡ left_of self.old q }
         ensures inner { inner_of self.new ≡ inner_of self.old }
         ensures raised { (q : ℕ) → raised_of self.new q ≡ raised_of self.old q }
+        ensures held { (q : ℕ) → held_of self.new q ≡ held_of self.old q }
     {
         self.left[platter] = k as u128 + 1;
     }
@@ -58,6 +58,7 @@ impl<B: Bay> Fused<B> {
         ensures others { (q : ℕ) → q ≢ platter → left_of self.new q ≡ left_of self.old q }
         ensures inner { inner_of self.new ≡ inner_of self.old }
         ensures raised { (q : ℕ) → raised_of self.new q ≡ raised_of self.old q }
+        ensures held { (q : ℕ) → held_of self.new q ≡ held_of self.old q }
     {
         self.left[platter] = 0;
     }
@@ -78,24 +79,17 @@ impl<B: Bay> Bay for Fused<B> {
 
     ghost meaning = { λ f. B.meaning (inner_of f) };
 
-    ghost streams = { λ f. B.streams (inner_of f) };
-
-    ghost faults = { all_faults B.faults };
-
-    ghost writes = { all_writes B.writes };
+    ghost counts = { all_counts B.counts };
 
     ghost is_exact = { false };
 
-    ghost follows = { FuseFollows B.writes B.follows };
+    ghost follows = { FuseFollows B.counts B.follows };
 
     fn read_at(&mut self, platter: usize, place: u64, buf: &mut [u8]) -> Result<(), Failed>
         requires platter { platter ≤ 255 }
         requires range { place + length buf.old ≤ 2 ^ 63 }
         ensures told { IsTrue B.tells → ReadTold platter place buf.new result (B.meaning (inner_of self.old)) (B.meaning (inner_of self.new)) }
-        ensures cause { HasCause platter result (all_faults B.faults self.old) (all_faults B.faults self.new) }
-        ensures writes { (q : ℕ) → all_writes B.writes self.new q ≡ all_writes B.writes self.old q }
-        ensures streams { B.streams (inner_of self.new) ≡ B.streams (inner_of self.old) }
-        ensures follows { FuseFollows B.writes B.follows self.old self.new }
+        ensures touches { Touches (all_counts B.counts) (FuseFollows B.counts B.follows) platter 0 (is_err result) self.old self.new }
         ensures left { (q : ℕ) → left_of self.new q ≡ left_of self.old q }
         ensures blown { left_of self.old platter ≡ 1 → IsErr result × (inner_of self.new ≡ inner_of self.old) }
     {
@@ -110,14 +104,12 @@ impl<B: Bay> Bay for Fused<B> {
         requires platter { platter ≤ 255 }
         requires range { place + length bytes.now ≤ 2 ^ 63 }
         ensures told { IsTrue B.tells → WriteTold platter place bytes.now result (B.meaning (inner_of self.old)) (B.meaning (inner_of self.new)) }
-        ensures cause { HasCause platter result (all_faults B.faults self.old) (all_faults B.faults self.new) }
-        ensures writes { Raises platter (all_writes B.writes self.old) (all_writes B.writes self.new) }
-        ensures streams { B.streams (inner_of self.new) ≡ B.streams (inner_of self.old) }
-        ensures follows { FuseFollows B.writes B.follows self.old self.new }
+        ensures touches { Touches (all_counts B.counts) (FuseFollows B.counts B.follows) platter 1 (is_err result) self.old self.new }
+        ensures written { HasWritten platter 1 (all_counts B.counts self.old) (all_counts B.counts self.new) }
         ensures burns { left_of self.new platter ≡ max (min (left_of self.old platter) 1) (left_of self.old platter - 1) }
         ensures others { (q : ℕ) → q ≢ platter → left_of self.new q ≡ left_of self.old q }
         ensures blows { left_of self.old platter ≡ 2 → IsErr result }
-        ensures passed { left_of self.old platter ≢ 1 → PassesWrite B.tells platter place bytes.now B.meaning B.faults B.writes (inner_of self.old) (inner_of self.new) }
+        ensures passed { left_of self.old platter ≢ 1 → PassesWrite B.tells platter place bytes.now B.meaning B.counts (inner_of self.old) (inner_of self.new) }
         ensures blown { left_of self.old platter ≡ 1 → IsErr result × (inner_of self.new ≡ inner_of self.old) }
     {
         if self.left[platter] == 1 {
@@ -139,10 +131,7 @@ impl<B: Bay> Bay for Fused<B> {
     fn sync(&mut self, platter: usize) -> Result<(), Failed>
         requires platter { platter ≤ 255 }
         ensures told { IsTrue B.tells → SyncTold platter result (B.meaning (inner_of self.old)) (B.meaning (inner_of self.new)) }
-        ensures cause { HasCause platter result (all_faults B.faults self.old) (all_faults B.faults self.new) }
-        ensures writes { (q : ℕ) → all_writes B.writes self.new q ≡ all_writes B.writes self.old q }
-        ensures streams { B.streams (inner_of self.new) ≡ B.streams (inner_of self.old) }
-        ensures follows { FuseFollows B.writes B.follows self.old self.new }
+        ensures touches { Touches (all_counts B.counts) (FuseFollows B.counts B.follows) platter 0 (is_err result) self.old self.new }
         ensures left { (q : ℕ) → left_of self.new q ≡ left_of self.old q }
         ensures blown { left_of self.old platter ≡ 1 → IsErr result × (inner_of self.new ≡ inner_of self.old) }
     {
@@ -156,10 +145,7 @@ impl<B: Bay> Bay for Fused<B> {
     fn restart(&mut self, platter: usize) -> Result<(), Failed>
         requires platter { platter ≤ 255 }
         ensures told { IsTrue B.tells → RestartTold platter result (B.meaning (inner_of self.old)) (B.meaning (inner_of self.new)) }
-        ensures cause { HasCause platter result (all_faults B.faults self.old) (all_faults B.faults self.new) }
-        ensures writes { (q : ℕ) → all_writes B.writes self.new q ≡ all_writes B.writes self.old q }
-        ensures streams { B.streams (inner_of self.new) ≡ B.streams (inner_of self.old) }
-        ensures follows { FuseFollows B.writes B.follows self.old self.new }
+        ensures touches { Touches (all_counts B.counts) (FuseFollows B.counts B.follows) platter 0 (is_err result) self.old self.new }
         ensures left { (q : ℕ) → left_of self.new q ≡ left_of self.old q }
         ensures blown { left_of self.old platter ≡ 1 → IsErr result × (inner_of self.new ≡ inner_of self.old) }
     {
@@ -173,10 +159,7 @@ impl<B: Bay> Bay for Fused<B> {
     fn blank(&mut self, platter: usize) -> Result<(), Failed>
         requires platter { platter ≤ 255 }
         ensures told { IsTrue B.tells → BlankTold platter result (B.meaning (inner_of self.old)) (B.meaning (inner_of self.new)) }
-        ensures cause { HasCause platter result (all_faults B.faults self.old) (all_faults B.faults self.new) }
-        ensures writes { (q : ℕ) → all_writes B.writes self.new q ≡ all_writes B.writes self.old q }
-        ensures streams { B.streams (inner_of self.new) ≡ B.streams (inner_of self.old) }
-        ensures follows { FuseFollows B.writes B.follows self.old self.new }
+        ensures touches { Touches (all_counts B.counts) (FuseFollows B.counts B.follows) platter 0 (is_err result) self.old self.new }
         ensures left { (q : ℕ) → left_of self.new q ≡ left_of self.old q }
         ensures blown { left_of self.old platter ≡ 1 → IsErr result × (inner_of self.new ≡ inner_of self.old) }
     {
@@ -187,11 +170,11 @@ impl<B: Bay> Bay for Fused<B> {
         self.inner.blank(platter)
     }
 
-    ghost follows_same = { λ a. fuse_same B.writes B.follows B.follows_same a };
+    ghost follows_same = { λ a. fuse_same B.counts B.follows B.follows_same a };
 
-    ghost follows_then = { λ a b c f g. fuse_then B.writes B.follows B.follows_then a b c f g };
+    ghost follows_then = { λ a b c f g. fuse_then B.counts B.follows B.follows_then a b c f g };
 
-    ghost exact = { λ _ _ told. absurd (false≢true told) };
+    ghost exact = { λ _ _ told _. absurd (false≢true told) };
 }
 
 impl<O: Outside> Outside for Fused<O> {

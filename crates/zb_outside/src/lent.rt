@@ -8,11 +8,7 @@ impl<B: Bay> Bay for &mut B {
 
     ghost meaning = { λ b. B.meaning b.now };
 
-    ghost streams = { λ b. B.streams b.now };
-
-    ghost faults = { λ b. B.faults b.now };
-
-    ghost writes = { λ b. B.writes b.now };
+    ghost counts = { λ b. B.counts b.now };
 
     ghost is_exact = { B.is_exact };
 

@@ -3,26 +3,16 @@
 #![tactic(auto)]
 
 mod bay;
-mod calls;
 mod counts;
-mod device;
-mod file;
 mod fused;
+mod laws;
 mod lent;
-mod memory;
-mod noting;
 mod outside;
-mod plate;
-mod platter_file;
-mod streams;
 mod synced;
-#[cfg(test)]
-mod tests;
-mod unsynced;
 
 pub use bay::Bay;
-pub use file::FileOutside;
+pub use counts::raise;
 pub use fused::Fused;
-pub use memory::MemOutside;
+pub use laws::beside_a_torn_range;
 pub use outside::Outside;
 pub use synced::write_synced;

@@ -1,5 +1,6 @@
-ghost use Rattle.std.specs.Prelude.{◌≡◌, ◌≤◌, ℕ, IsTrue, IfOk, OnErr, length};
-ghost use Rattle.zb_outside.specs.Streams.{AreCounted, TakeTold, PutTold, Rose};
+ghost use Rattle.std.specs.Prelude.{◌≤◌, IsTrue, IfOk, is_err, length};
+ghost use Rattle.zb_outside.specs.Counts.{TouchesScript, TouchesReport};
+ghost use Rattle.zb_outside.specs.Streams.{AreCounted, TakeTold, PutTold};
 
 use crate::bay::Bay;
 use zb_types::Failed;
@@ -12,26 +13,16 @@ pub trait Outside: Bay {
     /// `Failed` comes only where the count of failed takes rose. Then nothing was taken.
     fn take(&mut self, buf: &mut [u8]) -> Result<usize, Failed>
         ensures bound { IfOk result (λ n. n ≤ length buf.new) }
-        ensures told { IsTrue Self.tells → TakeTold buf.new result (Self.streams self.old) (Self.streams self.new) (Self.meaning self.old) (Self.meaning self.new) }
-        ensures cause { OnErr result (Rose (Self.streams self.old).read_faults (Self.streams self.new).read_faults) }
-        ensures later { (Self.streams self.old).read_faults ≤ (Self.streams self.new).read_faults }
-        ensures write_faults { (Self.streams self.new).write_faults ≡ (Self.streams self.old).write_faults }
-        ensures faults { (p : ℕ) → Self.faults self.new p ≡ Self.faults self.old p }
-        ensures writes { (p : ℕ) → Self.writes self.new p ≡ Self.writes self.old p }
-        ensures follows { Self.follows self.old self.new };
+        ensures told { IsTrue Self.tells → TakeTold buf.new result (Self.counts self.old).streams (Self.counts self.new).streams (Self.meaning self.old) (Self.meaning self.new) }
+        ensures touches { TouchesScript Self.counts Self.follows (is_err result) self.old self.new };
 
     /// Prints all of the bytes.
     ///
     /// `Failed` comes only where the count of failed puts rose. Then a front of the bytes was printed.
     fn put(&mut self, bytes: &[u8]) -> Result<(), Failed>
-        ensures told { IsTrue Self.tells → PutTold bytes.now result (Self.streams self.old) (Self.streams self.new) (Self.meaning self.old) (Self.meaning self.new) }
-        ensures cause { OnErr result (Rose (Self.streams self.old).write_faults (Self.streams self.new).write_faults) }
-        ensures later { (Self.streams self.old).write_faults ≤ (Self.streams self.new).write_faults }
-        ensures read_faults { (Self.streams self.new).read_faults ≡ (Self.streams self.old).read_faults }
-        ensures faults { (p : ℕ) → Self.faults self.new p ≡ Self.faults self.old p }
-        ensures writes { (p : ℕ) → Self.writes self.new p ≡ Self.writes self.old p }
-        ensures follows { Self.follows self.old self.new };
+        ensures told { IsTrue Self.tells → PutTold bytes.now result (Self.counts self.old).streams (Self.counts self.new).streams (Self.meaning self.old) (Self.meaning self.new) }
+        ensures touches { TouchesReport Self.counts Self.follows (is_err result) self.old self.new };
 
-    /// The moments count what the streams count.
-    ghost counted: { (o : Self) → IsTrue Self.tells → AreCounted (Self.meaning o).now (Self.streams o) };
+    /// The moments count what the streams count, as long as there is memory for the record.
+    ghost counted: { (o : Self) → IsTrue Self.tells → IsTrue (Self.meaning o).is_recording → AreCounted (Self.meaning o).now (Self.counts o).streams };
 }

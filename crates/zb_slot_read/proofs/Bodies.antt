@@ -5,7 +5,7 @@ use Rattle.std.proofs.lemmas.Bool.{cases_lt}
 use Rattle.std.proofs.lemmas.Bool.Decides.{nat_tests, Decides-eqb, same_from_decides}
 use Rattle.std.proofs.lemmas.List.{same_lists, get_or_default, get_or-take, get_or-drop, get_or_append_left, get_or-append_right, length-replicate}
 use Rattle.std.proofs.lemmas.Slice.Eq.{slice_eq-Decides}
-use Rattle.zb_outside.specs.Images.{zeros}
+use Rattle.zb_devices.specs.Images.{zeros}
 use Rattle.zb_outside.specs.Ranges.{Reads}
 use Rattle.zb_cell.specs.Cell.{window, bytes_at, value}
 use Rattle.zb_types.specs.declared.geometry.Geometry.{Geometry}

@@ -1,8 +1,9 @@
-ghost use Rattle.std.specs.Prelude.{◌≡◌, ◌≤◌, ◌<◌, ◌^◌, ◌++◌, ◌∷◌, [], true, false, length, IfOk, IfErr, OnOk, OnErr, Some, IsTrue, if◌then◌else◌};
+ghost use Rattle.std.specs.Prelude.{◌≡◌, ◌≤◌, ◌<◌, ◌^◌, ◌++◌, ◌∷◌, [], true, false, length, IfOk, IfErr, OnOk, OnErr, Some, IsTrue, is_err, if◌then◌else◌};
 ghost use Rattle.zb_types.specs.Tree.{listing};
 ghost use Rattle.zb_types.specs.History.{tree_after};
 ghost use Rattle.zb_claims.specs.Text.{report_text};
-ghost use Rattle.zb_outside.specs.Streams.{TakeTold, PutTold, Rose};
+ghost use Rattle.zb_outside.specs.Counts.{TouchesScript, TouchesReport};
+ghost use Rattle.zb_outside.specs.Streams.{TakeTold, PutTold};
 ghost use Rattle.zb_world.specs.Seen.{first_seen, waiting, AddsOne, IsFinished};
 ghost use Rattle.zb_world.specs.World.{can_step, Grows};
 ghost use Rattle.zb_world.specs.Sound.{IsWithin, HistoryFits, CallsInOrder};
@@ -116,10 +117,8 @@ impl<O: Outside + Drop> World<O> {
     /// Takes bytes of the script, as the outside does.
     pub fn take(&mut self, buf: &mut [u8]) -> Result<usize, Failed>
         ensures bound { IfOk result (λ n. n ≤ length buf.new) }
-        ensures told { IsTrue O.tells → TakeTold buf.new result (O.streams self.old.out) (O.streams self.new.out) (O.meaning self.old.out) (O.meaning self.new.out) }
-        ensures cause { OnErr result (Rose (O.streams self.old.out).read_faults (O.streams self.new.out).read_faults) }
-        ensures later { (O.streams self.old.out).read_faults ≤ (O.streams self.new.out).read_faults }
-        ensures write_faults { (O.streams self.new.out).write_faults ≡ (O.streams self.old.out).write_faults }
+        ensures told { IsTrue O.tells → TakeTold buf.new result (O.counts self.old.out).streams (O.counts self.new.out).streams (O.meaning self.old.out) (O.meaning self.new.out) }
+        ensures touches { TouchesScript O.counts O.follows (is_err result) self.old.out self.new.out }
         ensures seen { self.new.seen ≡ self.old.seen }
     {
         self.out.take(buf)
@@ -127,10 +126,8 @@ impl<O: Outside + Drop> World<O> {
 
     /// Prints the lines that wait. After `Failed` a front of their text was printed, and none of them waits any longer.
     pub fn put_report(&mut self) -> Result<(), Failed>
-        ensures told { IsTrue O.tells → PutTold (report_text (waiting self.old.seen)) result (O.streams self.old.out) (O.streams self.new.out) (O.meaning self.old.out) (O.meaning self.new.out) }
-        ensures cause { OnErr result (Rose (O.streams self.old.out).write_faults (O.streams self.new.out).write_faults) }
-        ensures later { (O.streams self.old.out).write_faults ≤ (O.streams self.new.out).write_faults }
-        ensures read_faults { (O.streams self.new.out).read_faults ≡ (O.streams self.old.out).read_faults }
+        ensures told { IsTrue O.tells → PutTold (report_text (waiting self.old.seen)) result (O.counts self.old.out).streams (O.counts self.new.out).streams (O.meaning self.old.out) (O.meaning self.new.out) }
+        ensures touches { TouchesReport O.counts O.follows (is_err result) self.old.out self.new.out }
         ensures seen { self.new.seen ≡ record self.old.seen { told = length self.old.seen.lines } }
     {
         let put = self.out.put(self.ledger.text());

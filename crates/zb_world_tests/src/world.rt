@@ -3,7 +3,7 @@ ghost use Rattle.zb_world.specs.Sound.{IsWithin};
 
 use std::alloc::Global;
 use std::test::Fail;
-use zb_outside::MemOutside;
+use zb_devices::MemOutside;
 use zb_report::tree;
 use zb_types::{ByteList, Call, Fid, Geometry, Node, Path};
 use zb_world::{Step, World};

@@ -25,9 +25,9 @@ pub enum Heading {
 // Takes bytes until a line is whole, or the script has no more.
 fn fill<O: Outside + Drop>(alloc: Global, source: &mut Source, out: &mut O) -> Result<(), Halted>
     ensures whole { OnOk result (wants_more source.new ≡ false) }
-    ensures told { IsTrue O.tells → StillReads result source.old source.new (tape (O.streams out.old) (O.meaning out.old)) (tape (O.streams out.new) (O.meaning out.new)) }
+    ensures told { IsTrue O.tells → StillReads result source.old source.new (tape (O.counts out.old).streams (O.meaning out.old)) (tape (O.counts out.new).streams (O.meaning out.new)) }
     ensures prints { IsTrue O.tells → (O.meaning out.new).now.printed ≡ (O.meaning out.old).now.printed }
-    ensures cause { HasCause result (O.streams out.old) (O.streams out.new) }
+    ensures cause { HasCause result (O.counts out.old).streams (O.counts out.new).streams }
 {
     if !source.wants_more() {
         return Ok(());
@@ -75,9 +75,9 @@ fn read_line<O: Outside + Drop>(
     requires none { script.old.geo ≡ None }
     ensures system { IfOk result (λ found. IfSome found (IsSystemOf script.new.geo)) }
     ensures more { IfOk result (λ found. found ≡ None → (script.new.geo ≡ None) × (script.old.used < script.new.used) × (script.new.used ≤ max_script)) }
-    ensures told { IsTrue O.tells → StillHeads result script.old source.old (tape (O.streams out.old) (O.meaning out.old)) script.new source.new (tape (O.streams out.new) (O.meaning out.new)) }
+    ensures told { IsTrue O.tells → StillHeads result script.old source.old (tape (O.counts out.old).streams (O.meaning out.old)) script.new source.new (tape (O.counts out.new).streams (O.meaning out.new)) }
     ensures prints { IsTrue O.tells → (O.meaning out.new).now.printed ≡ (O.meaning out.old).now.printed }
-    ensures cause { HasCause result (O.streams out.old) (O.streams out.new) }
+    ensures cause { HasCause result (O.counts out.old).streams (O.counts out.new).streams }
 {
     fill(alloc, source, out)?;
     let number = script.line_number();
@@ -107,8 +107,8 @@ pub fn read_head<O: Outside + Drop>(
     requires none { script.old.geo ≡ None }
     ensures system { IfOk result (IsSystemOf script.new.geo) }
     ensures prints { IsTrue O.tells → (O.meaning out.new).now.printed ≡ (O.meaning out.old).now.printed }
-    ensures told { IsTrue O.tells → Heads result script.old source.old (tape (O.streams out.old) (O.meaning out.old)) script.new source.new (tape (O.streams out.new) (O.meaning out.new)) }
-    ensures cause { HasCause result (O.streams out.old) (O.streams out.new) }
+    ensures told { IsTrue O.tells → Heads result script.old source.old (tape (O.counts out.old).streams (O.meaning out.old)) script.new source.new (tape (O.counts out.new).streams (O.meaning out.new)) }
+    ensures cause { HasCause result (O.counts out.old).streams (O.counts out.new).streams }
 {
     'lines: loop {
         if let Some(heading) = read_line(alloc, script, source, out)? {

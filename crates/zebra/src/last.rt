@@ -24,9 +24,9 @@ pub struct Last {
 fn finish<O: Outside + Drop>(alloc: Global, world: &mut World<O>) -> Result<(), Halted>
     ensures finished { OnOk result (IsFinished world.new.seen) }
     ensures calls { world.new.seen.calls ≡ world.old.seen.calls }
-    ensures told { IsTrue O.tells → StillPrints result world.old.seen world.new.seen (tape (O.streams world.old.out) (O.meaning world.old.out)) (tape (O.streams world.new.out) (O.meaning world.new.out)) }
-    ensures takes { IsTrue O.tells → TakesNone (tape (O.streams world.old.out) (O.meaning world.old.out)) (tape (O.streams world.new.out) (O.meaning world.new.out)) }
-    ensures cause { HasCause result (O.streams world.old.out) (O.streams world.new.out) }
+    ensures told { IsTrue O.tells → StillPrints result world.old.seen world.new.seen (tape (O.counts world.old.out).streams (O.meaning world.old.out)) (tape (O.counts world.new.out).streams (O.meaning world.new.out)) }
+    ensures takes { IsTrue O.tells → TakesNone (tape (O.counts world.old.out).streams (O.meaning world.old.out)) (tape (O.counts world.new.out).streams (O.meaning world.new.out)) }
+    ensures cause { HasCause result (O.counts world.old.out).streams (O.counts world.new.out).streams }
 {
     let finished = world.finish(alloc);
     world.put_report()?;
@@ -84,9 +84,9 @@ pub fn last_of<O: Outside + Drop>(
     requires idle { has_work world.old.seen ≡ false }
     ensures last { IfOk result (IsLast ending world.new.seen) }
     ensures calls { world.new.seen.calls ≡ world.old.seen.calls }
-    ensures told { IsTrue O.tells → StillPrints result world.old.seen world.new.seen (tape (O.streams world.old.out) (O.meaning world.old.out)) (tape (O.streams world.new.out) (O.meaning world.new.out)) }
-    ensures takes { IsTrue O.tells → TakesNone (tape (O.streams world.old.out) (O.meaning world.old.out)) (tape (O.streams world.new.out) (O.meaning world.new.out)) }
-    ensures cause { HasCause result (O.streams world.old.out) (O.streams world.new.out) }
+    ensures told { IsTrue O.tells → StillPrints result world.old.seen world.new.seen (tape (O.counts world.old.out).streams (O.meaning world.old.out)) (tape (O.counts world.new.out).streams (O.meaning world.new.out)) }
+    ensures takes { IsTrue O.tells → TakesNone (tape (O.counts world.old.out).streams (O.meaning world.old.out)) (tape (O.counts world.new.out).streams (O.meaning world.new.out)) }
+    ensures cause { HasCause result (O.counts world.old.out).streams (O.counts world.new.out).streams }
 {
     match ending {
         Ending::Bad { number } => Ok(bad_line(alloc, number)?),

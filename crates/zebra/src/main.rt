@@ -14,7 +14,7 @@ mod tests;
 use program::{Status, zebra_run};
 use std::process::ExitCode;
 use std::{env, io};
-use zb_outside::FileOutside;
+use zb_devices::FileOutside;
 
 // The program takes its words, runs the script of standard input, and prints the report on standard output. Where the
 // words can't be taken, the status is that of want of memory.

@@ -27,11 +27,11 @@ pub struct Status(pub u8);
 
 // Prints the last bytes of a report. The status is 4 where that fails.
 fn put_last<O: Outside + Drop>(out: &mut O, bytes: &[u8], status: u8) -> Status
-    ensures told { IsTrue O.tells → PutsLast bytes.now status result.0 (tape (O.streams out.old) (O.meaning out.old)) (tape (O.streams out.new) (O.meaning out.new)) }
+    ensures told { IsTrue O.tells → PutsLast bytes.now status result.0 (tape (O.counts out.old).streams (O.meaning out.old)) (tape (O.counts out.new).streams (O.meaning out.new)) }
     ensures status { (result.0 ≡ status) ⊎ (result.0 ≡ 4) }
-    ensures cause { (result.0 ≡ status) ⊎ Rose (O.streams out.old).write_faults (O.streams out.new).write_faults }
-    ensures reads { (O.streams out.new).read_faults ≡ (O.streams out.old).read_faults }
-    ensures writes { (O.streams out.old).write_faults ≤ (O.streams out.new).write_faults }
+    ensures cause { (result.0 ≡ status) ⊎ Rose (O.counts out.old).streams.write_faults (O.counts out.new).streams.write_faults }
+    ensures reads { (O.counts out.new).streams.read_faults ≡ (O.counts out.old).streams.read_faults }
+    ensures writes { (O.counts out.old).streams.write_faults ≤ (O.counts out.new).streams.write_faults }
 {
     match out.put(bytes) {
         Ok(()) => Status(status),
@@ -41,12 +41,12 @@ fn put_last<O: Outside + Drop>(out: &mut O, bytes: &[u8], status: u8) -> Status
 
 // Prints why a run broke off, but where nothing can be printed.
 fn put_halted<O: Outside + Drop>(out: &mut O, halted: Halted) -> Status
-    ensures told { IsTrue O.tells → PutsHalted halted result.0 (tape (O.streams out.old) (O.meaning out.old)) (tape (O.streams out.new) (O.meaning out.new)) }
+    ensures told { IsTrue O.tells → PutsHalted halted result.0 (tape (O.counts out.old).streams (O.meaning out.old)) (tape (O.counts out.new).streams (O.meaning out.new)) }
     ensures status { (result.0 ≡ 3) ⊎ ((result.0 ≡ 4) ⊎ (result.0 ≡ 6)) }
     ensures read { result.0 ≡ 3 → halted ≡ Halted.ReadFault }
-    ensures write { result.0 ≡ 4 → (halted ≡ Halted.WriteFault) ⊎ Rose (O.streams out.old).write_faults (O.streams out.new).write_faults }
-    ensures reads { (O.streams out.new).read_faults ≡ (O.streams out.old).read_faults }
-    ensures writes { (O.streams out.old).write_faults ≤ (O.streams out.new).write_faults }
+    ensures write { result.0 ≡ 4 → (halted ≡ Halted.WriteFault) ⊎ Rose (O.counts out.old).streams.write_faults (O.counts out.new).streams.write_faults }
+    ensures reads { (O.counts out.new).streams.read_faults ≡ (O.counts out.old).streams.read_faults }
+    ensures writes { (O.counts out.old).streams.write_faults ≤ (O.counts out.new).streams.write_faults }
 {
     match halted {
         Halted::Memory => put_last(out, b"out of memory\n", NO_MEMORY),
@@ -58,11 +58,11 @@ fn put_halted<O: Outside + Drop>(out: &mut O, halted: Halted) -> Status
 // Prints the last line of a script without a header that the program runs.
 fn put_fault<O: Outside + Drop>(out: &mut O, last: Mem<Last>) -> Status
     requires { IfOk last (λ last. (last.status ≡ 2) ⊎ (last.status ≡ 10)) }
-    ensures told { IsTrue O.tells → PutsFault last result.0 (tape (O.streams out.old) (O.meaning out.old)) (tape (O.streams out.new) (O.meaning out.new)) }
+    ensures told { IsTrue O.tells → PutsFault last result.0 (tape (O.counts out.old).streams (O.meaning out.old)) (tape (O.counts out.new).streams (O.meaning out.new)) }
     ensures status { (result.0 ≡ 2) ⊎ ((result.0 ≡ 10) ⊎ ((result.0 ≡ 4) ⊎ (result.0 ≡ 6))) }
-    ensures write { result.0 ≡ 4 → Rose (O.streams out.old).write_faults (O.streams out.new).write_faults }
-    ensures reads { (O.streams out.new).read_faults ≡ (O.streams out.old).read_faults }
-    ensures writes { (O.streams out.old).write_faults ≤ (O.streams out.new).write_faults }
+    ensures write { result.0 ≡ 4 → Rose (O.counts out.old).streams.write_faults (O.counts out.new).streams.write_faults }
+    ensures reads { (O.counts out.new).streams.read_faults ≡ (O.counts out.old).streams.read_faults }
+    ensures writes { (O.counts out.old).streams.write_faults ≤ (O.counts out.new).streams.write_faults }
 {
     match last {
         Ok(last) => put_last(out, &last.text, last.status),
@@ -80,8 +80,8 @@ fn run_all<O: Outside + Drop>(
     requires one { IsOfOne script.old.geo }
     requires idle { has_work world.old.seen ≡ false }
     ensures status { IfOk result (λ last. (last.status ≡ 0) ⊎ ((last.status ≡ 2) ⊎ (last.status ≡ 10))) }
-    ensures told { IsTrue O.tells → (start : Start) → IsRunning start script.old source.old world.old.seen (tape (O.streams world.old.out) (O.meaning world.old.out)) → MatchResult result (λ last. HasEnded start last source.new world.new.seen (tape (O.streams world.new.out) (O.meaning world.new.out))) (λ halted. IsBroken halted start world.new.seen (tape (O.streams world.new.out) (O.meaning world.new.out))) }
-    ensures cause { HasCause result (O.streams world.old.out) (O.streams world.new.out) }
+    ensures told { IsTrue O.tells → (start : Start) → IsRunning start script.old source.old world.old.seen (tape (O.counts world.old.out).streams (O.meaning world.old.out)) → MatchResult result (λ last. HasEnded start last source.new world.new.seen (tape (O.counts world.new.out).streams (O.meaning world.new.out))) (λ halted. IsBroken halted start world.new.seen (tape (O.counts world.new.out).streams (O.meaning world.new.out))) }
+    ensures cause { HasCause result (O.counts world.old.out).streams (O.counts world.new.out).streams }
 {
     let ending = run_rows(alloc, script, source, world)?;
     last_of(alloc, world, ending)
@@ -97,9 +97,9 @@ fn run_script<O: Outside + Drop>(
 ) -> (Status, O)
     requires client { geo.clients ≡ 1 }
     requires system { script.geo ≡ Some geo }
-    ensures told { IsTrue O.tells → (start : Tape) → HasSystem start geo script source (tape (O.streams out) (O.meaning out)) → start.printed ≡ (O.meaning out).now.printed → RunsFrom result.0.0 start (tape (O.streams result.1) (O.meaning result.1)) }
+    ensures told { IsTrue O.tells → (start : Tape) → HasSystem start geo script source (tape (O.counts out).streams (O.meaning out)) → start.printed ≡ (O.meaning out).now.printed → RunsFrom result.0.0 start (tape (O.counts result.1).streams (O.meaning result.1)) }
     ensures status { IsStatus result.0.0 }
-    ensures cause { IsCaused result.0.0 (O.streams out) (O.streams result.1) }
+    ensures cause { IsCaused result.0.0 (O.counts out).streams (O.counts result.1).streams }
 {
     let mut script = script;
     let mut source = source;
@@ -131,11 +131,11 @@ fn is_run(words: &[String]) -> bool
 /// The bytes that were printed are the lines of the calls that were read, each call answered by one file tree in the
 /// order of the calls, and the lines that tell how the run ended.
 pub fn zebra_run<O: Outside + Drop>(alloc: Global, words: &[String], out: O) -> (Status, O)
-    ensures runs { IsTrue O.tells → is_run words.now ≡ true → RunsFrom result.0.0 (tape (O.streams out) (O.meaning out)) (tape (O.streams result.1) (O.meaning result.1)) }
-    ensures usage { IsTrue O.tells → is_run words.now ≡ false → PutsLast usage 5 result.0.0 (tape (O.streams out) (O.meaning out)) (tape (O.streams result.1) (O.meaning result.1)) }
+    ensures runs { IsTrue O.tells → is_run words.now ≡ true → RunsFrom result.0.0 (tape (O.counts out).streams (O.meaning out)) (tape (O.counts result.1).streams (O.meaning result.1)) }
+    ensures usage { IsTrue O.tells → is_run words.now ≡ false → PutsLast usage 5 result.0.0 (tape (O.counts out).streams (O.meaning out)) (tape (O.counts result.1).streams (O.meaning result.1)) }
     ensures status { is_run words.now ≡ true → IsStatus result.0.0 }
     ensures other_words { is_run words.now ≡ false → (result.0.0 ≡ 5) ⊎ (result.0.0 ≡ 4) }
-    ensures cause { IsCaused result.0.0 (O.streams out) (O.streams result.1) }
+    ensures cause { IsCaused result.0.0 (O.counts out).streams (O.counts result.1).streams }
 {
     let mut out = out;
     if !is_run(words) {

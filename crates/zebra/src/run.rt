@@ -25,9 +25,9 @@ fn fill<O: Outside + Drop>(
 ) -> Result<(), Halted>
     ensures whole { OnOk result (wants_more source.new ≡ false) }
     ensures seen { world.new.seen ≡ world.old.seen }
-    ensures told { IsTrue O.tells → StillReads result source.old source.new (tape (O.streams world.old.out) (O.meaning world.old.out)) (tape (O.streams world.new.out) (O.meaning world.new.out)) }
+    ensures told { IsTrue O.tells → StillReads result source.old source.new (tape (O.counts world.old.out).streams (O.meaning world.old.out)) (tape (O.counts world.new.out).streams (O.meaning world.new.out)) }
     ensures prints { IsTrue O.tells → (O.meaning world.new.out).now.printed ≡ (O.meaning world.old.out).now.printed }
-    ensures cause { HasCause result (O.streams world.old.out) (O.streams world.new.out) }
+    ensures cause { HasCause result (O.counts world.old.out).streams (O.counts world.new.out).streams }
 {
     if !source.wants_more() {
         return Ok(());
@@ -44,9 +44,9 @@ fn fill<O: Outside + Drop>(
 fn settle<O: Outside + Drop>(alloc: Global, world: &mut World<O>) -> Result<(), Halted>
     ensures idle { OnOk result (has_work world.new.seen ≡ false) }
     ensures calls { world.new.seen.calls ≡ world.old.seen.calls }
-    ensures told { IsTrue O.tells → StillPrints result world.old.seen world.new.seen (tape (O.streams world.old.out) (O.meaning world.old.out)) (tape (O.streams world.new.out) (O.meaning world.new.out)) }
-    ensures takes { IsTrue O.tells → TakesNone (tape (O.streams world.old.out) (O.meaning world.old.out)) (tape (O.streams world.new.out) (O.meaning world.new.out)) }
-    ensures cause { HasCause result (O.streams world.old.out) (O.streams world.new.out) }
+    ensures told { IsTrue O.tells → StillPrints result world.old.seen world.new.seen (tape (O.counts world.old.out).streams (O.meaning world.old.out)) (tape (O.counts world.new.out).streams (O.meaning world.new.out)) }
+    ensures takes { IsTrue O.tells → TakesNone (tape (O.counts world.old.out).streams (O.meaning world.old.out)) (tape (O.counts world.new.out).streams (O.meaning world.new.out)) }
+    ensures cause { HasCause result (O.counts world.old.out).streams (O.counts world.new.out).streams }
 {
     'steps: while world.step(alloc, Node::Client(CLIENT))? != Step::Idle {
         world.put_report()?;
@@ -66,8 +66,8 @@ fn run_row<O: Outside + Drop>(
     ensures idle { OnOk result (has_work world.new.seen ≡ false) }
     ensures one { IsOfOne script.new.geo }
     ensures more { IfOk result (λ ended. ended ≡ None → (script.old.used < script.new.used) × (script.new.used ≤ max_script)) }
-    ensures told { IsTrue O.tells → (start : Start) → IsRunning start script.old source.old world.old.seen (tape (O.streams world.old.out) (O.meaning world.old.out)) → MatchResult result (λ ended. GoesOn ended start script.new source.new world.new.seen (tape (O.streams world.new.out) (O.meaning world.new.out))) (λ halted. IsBroken halted start world.new.seen (tape (O.streams world.new.out) (O.meaning world.new.out))) }
-    ensures cause { HasCause result (O.streams world.old.out) (O.streams world.new.out) }
+    ensures told { IsTrue O.tells → (start : Start) → IsRunning start script.old source.old world.old.seen (tape (O.counts world.old.out).streams (O.meaning world.old.out)) → MatchResult result (λ ended. GoesOn ended start script.new source.new world.new.seen (tape (O.counts world.new.out).streams (O.meaning world.new.out))) (λ halted. IsBroken halted start world.new.seen (tape (O.counts world.new.out).streams (O.meaning world.new.out))) }
+    ensures cause { HasCause result (O.counts world.old.out).streams (O.counts world.new.out).streams }
 {
     fill(alloc, source, world)?;
     match next_row(alloc, script, source)? {
@@ -95,8 +95,8 @@ pub fn run_rows<O: Outside + Drop>(
     requires one { IsOfOne script.old.geo }
     requires idle { has_work world.old.seen ≡ false }
     ensures idle { OnOk result (has_work world.new.seen ≡ false) }
-    ensures told { IsTrue O.tells → (start : Start) → IsRunning start script.old source.old world.old.seen (tape (O.streams world.old.out) (O.meaning world.old.out)) → MatchResult result (λ ending. HasStopped ending start source.new world.new.seen (tape (O.streams world.new.out) (O.meaning world.new.out))) (λ halted. IsBroken halted start world.new.seen (tape (O.streams world.new.out) (O.meaning world.new.out))) }
-    ensures cause { HasCause result (O.streams world.old.out) (O.streams world.new.out) }
+    ensures told { IsTrue O.tells → (start : Start) → IsRunning start script.old source.old world.old.seen (tape (O.counts world.old.out).streams (O.meaning world.old.out)) → MatchResult result (λ ending. HasStopped ending start source.new world.new.seen (tape (O.counts world.new.out).streams (O.meaning world.new.out))) (λ halted. IsBroken halted start world.new.seen (tape (O.counts world.new.out).streams (O.meaning world.new.out))) }
+    ensures cause { HasCause result (O.counts world.old.out).streams (O.counts world.new.out).streams }
 {
     'rows: loop {
         if let Some(ending) = run_row(alloc, script, source, world)? {

@@ -1,6 +1,6 @@
 use crate::program::{Status, zebra_run};
 use std::alloc::Global;
-use zb_outside::MemOutside;
+use zb_devices::MemOutside;
 use zb_types::Mem;
 
 /// A run: the word, the script, and then the report and the status that are wanted.

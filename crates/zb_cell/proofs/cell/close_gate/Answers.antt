@@ -1,6 +1,6 @@
 use Rattle.std.proofs.Common.{◌≡◌, ◌==◌, ℕ, Bool, true, arith}
 use Rattle.std.proofs.lemmas.Bool.Decides.{nat_tests}
-use Rattle.zb_cell.proofs.Steps.{closed_gate}
+use Rattle.zb_cell.proofs.Steps.{closed_gate, zero_gate}
 use Rattle.zb_cell.proofs.cell.close_gate.Goals as goal
 
 is_one : (b : Bool) (n : ℕ) → b ≡ (n == 1) → b ≡ true → n ≡ 1
@@ -9,3 +9,6 @@ is_one b n same is = grind (arith, nat_tests)
 pub returns-clause-told : goal.returns-clause-told
 returns-clause-told g c told ready =
     closed_gate ready.within (is_one _ _ ready.gate c.if-not-is_open.false) (c.write_synced.ensures.told told ready.settled)
+
+pub returns-clause-zero : goal.returns-clause-zero
+returns-clause-zero g c told ready _ = zero_gate _ (c.write_synced.ensures.told told ready.settled)

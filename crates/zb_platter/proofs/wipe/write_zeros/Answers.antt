@@ -1,7 +1,7 @@
 use Rattle.std.proofs.Common.{rules, ◌≡◌, ℕ, ◌-◌, ◌*◌, ◌/◌, ◌%◌, List, slice_index, take, replicate, length-take, inl, inr, subst, ◌∙◌, ap, arith}
 use Rattle.std.proofs.lemmas.List.{get_or-take, get_or_past}
 use Rattle.std.proofs.lemmas.Bool.{cases_lt}
-use Rattle.zb_outside.specs.Images.{zeros}
+use Rattle.zb_devices.specs.Images.{zeros}
 use Rattle.zb_platter.specs.Zeros.{AreZeros}
 use Rattle.zb_platter.proofs.Wiping.{zeros_failed, went_on, more_zeros, last_zeros}
 use Rattle.zb_platter.proofs.wipe.write_zeros.Goals as goal

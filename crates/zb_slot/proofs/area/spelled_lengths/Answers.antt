@@ -1,5 +1,5 @@
 use Rattle.std.proofs.Common.{◌≡◌, ◌+◌, ◌*◌, ℕ, List, length, slice_index, slice_index_or, inr, below_more, ap, ◌∙◌, arith}
-use Rattle.zb_outside.specs.Images.{zeros}
+use Rattle.zb_devices.specs.Images.{zeros}
 use Rattle.zb_slots.specs.Slots.{four_at}
 use Rattle.zb_slot.proofs.Numbers.{numbers_are, length-four_set, four_elsewhere, four_there, four_kept, digits}
 use Rattle.zb_slot.proofs.area.spelled_lengths.Goals as goal

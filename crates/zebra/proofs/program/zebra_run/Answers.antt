@@ -7,13 +7,13 @@ use Rattle.zebra.proofs.program.zebra_run.Goals.{in-Ok-Missing, in-Ok-Later, in-
 
 pub returns-in-Ok-System-clause-runs : goal.returns-in-Ok-System-clause-runs
 returns-in-Ok-System-clause-runs g c tells own =
-    let start = tape (g.O.Bay.streams c.args.out) (g.O.Bay.meaning c.args.out) in
+    let start = tape (g.O.Bay.counts c.args.out).streams (g.O.Bay.meaning c.args.out) in
     let head = rw c.in-Ok-System.field-0-is at c.in-Ok-System.ensures.told tells start (rw (c.new-script.ensures, c.new-source.ensures) (first_heading start)) in
     c.run_script.ensures.told tells start head (sym (c.read_head.ensures.prints tells))
 
 pub returns-clause-runs : goal.returns-clause-runs
 returns-clause-runs g c tells own =
-    let start = tape (g.O.Bay.streams c.args.out) (g.O.Bay.meaning c.args.out) in
+    let start = tape (g.O.Bay.counts c.args.out).streams (g.O.Bay.meaning c.args.out) in
     elim c.match-read_head.branch [
       | in-Ok-Missing w ↦ rw (w.status-is, w.out-is)
           (let head = rw w.in-Ok-Missing.field-0-is at w.in-Ok-Missing.ensures.told tells start (rw (c.new-script.ensures, c.new-source.ensures) (first_heading start)) in

@@ -9,12 +9,12 @@ takes-preserved g c =
       c.take-taken.ensures.seen ∙ h.0,
       λ tells start front read. IsRead-take c.take-taken.new.buf c.take-taken.result _ _ _ _ c.takes.source c.accept.new.self (c.take-taken.ensures.told tells) (search rules) c.in_ok-accept.ensures.ok (λ wrong. absurd (let clash : _ ≡ _ = c.in_ok-accept.ensures.fault wrong in cc)) start front (h.1 tells start front read),
       λ tells. (c.take-taken.ensures.told tells).printed ∙ h.2 tells,
-      omega (arith, h.3, c.take-taken.ensures.later),
-      c.take-taken.ensures.write_faults ∙ h.4,
+      omega (arith, h.3, c.take-taken.ensures.touches.read_faults),
+      c.take-taken.ensures.touches.write_faults ∙ h.4,
     )
 
 pub returns-in_err-accept-clause-told : goal.returns-in_err-accept-clause-told
 returns-in_err-accept-clause-told g c tells start front read =
-    let taken : IsTaken start front (tape (g.O.Bay.streams c.take-taken.new.self.out) (g.O.Bay.meaning c.take-taken.new.self.out)) =
+    let taken : IsTaken start front (tape (g.O.Bay.counts c.take-taken.new.self.out).streams (g.O.Bay.meaning c.take-taken.new.self.out)) =
     IsTaken-take c.take-taken.new.buf c.take-taken.result _ _ _ _ c.takes.source (c.take-taken.ensures.told tells) start front (c.takes.invariant.1 tells start front read) in
     search rules

@@ -21,7 +21,7 @@ returns-in_err-settle-in-Call-clause-told g c tells start h =
     let none = rw c.in_ok-call-in-Call.ensures.out at c.settle.ensures.takes tells in
     let before : IsPrinted start.tape.printed c.call.new.self.seen (g.O.Bay.meaning c.call.new.self.out).now.printed =
     rw (c.in_ok-call-in-Call.ensures.out, c.fill.ensures.prints tells) (IsPrinted-given start.tape.printed c.args.world.now.seen c.call.new.self.seen c.in-Call.call _ h.printed given) in
-    let has = has_call start c.args.script.now c.args.source.now c.fill.new.source c.args.world.now.seen _ (tape (g.O.Bay.streams c.fill.new.world.out) (g.O.Bay.meaning c.fill.new.world.out)) (tape (g.O.Bay.streams c.settle.new.world.out) (g.O.Bay.meaning c.settle.new.world.out)) c.in-Call.call c.in-Call.len h read call.1 call.2 none in
+    let has = has_call start c.args.script.now c.args.source.now c.fill.new.source c.args.world.now.seen _ (tape (g.O.Bay.counts c.fill.new.world.out).streams (g.O.Bay.meaning c.fill.new.world.out)) (tape (g.O.Bay.counts c.settle.new.world.out).streams (g.O.Bay.meaning c.settle.new.world.out)) c.in-Call.call c.in-Call.len h read call.1 call.2 none in
     on_this_err c.from_residual-in_err-settle-in-Call.result c.in_err-settle-in-Call.field-0.0 _ _ c.from_residual-in_err-settle-in-Call.ensures.1
     (broken_after start (h.rows ++ said (line_of c.in-Call.call) ∷ []) (behind c.fill.new.source c.in-Call.len) c.settle.new.world.seen (c.args.world.now.seen.calls ++ c.in-Call.call ∷ []) _ has (c.settle.ensures.calls ∙ ap (λ (s : Seen). s.calls) given) c.in_err-settle-in-Call.field-0.0 (c.in_err-settle-in-Call.ensures.told tells start.tape.printed before))
 
@@ -34,7 +34,7 @@ returns-in_ok-settle-in-Call-clause-told g c tells start h =
     let none = rw c.in_ok-call-in-Call.ensures.out at c.settle.ensures.takes tells in
     let before : IsPrinted start.tape.printed c.call.new.self.seen (g.O.Bay.meaning c.call.new.self.out).now.printed =
     rw (c.in_ok-call-in-Call.ensures.out, c.fill.ensures.prints tells) (IsPrinted-given start.tape.printed c.args.world.now.seen c.call.new.self.seen c.in-Call.call _ h.printed given) in
-    let has = has_call start c.args.script.now c.args.source.now c.fill.new.source c.args.world.now.seen _ (tape (g.O.Bay.streams c.fill.new.world.out) (g.O.Bay.meaning c.fill.new.world.out)) (tape (g.O.Bay.streams c.settle.new.world.out) (g.O.Bay.meaning c.settle.new.world.out)) c.in-Call.call c.in-Call.len h read call.1 call.2 none in
+    let has = has_call start c.args.script.now c.args.source.now c.fill.new.source c.args.world.now.seen _ (tape (g.O.Bay.counts c.fill.new.world.out).streams (g.O.Bay.meaning c.fill.new.world.out)) (tape (g.O.Bay.counts c.settle.new.world.out).streams (g.O.Bay.meaning c.settle.new.world.out)) c.in-Call.call c.in-Call.len h read call.1 call.2 none in
     rw c.skip.ensures (running start (h.rows ++ said (line_of c.in-Call.call) ∷ []) c.next_row.new.script (behind c.fill.new.source c.in-Call.len) c.settle.new.world.seen (c.args.world.now.seen.calls ++ c.in-Call.call ∷ []) _ has (c.settle.ensures.calls ∙ ap (λ (s : Seen). s.calls) given)
     (place_moved start c.args.script.now c.next_row.new.script h.rows (said (line_of c.in-Call.call)) c.fill.new.source.rest c.in-Call.len h.at moves call.2) c.in_ok-settle-in-Call.ensures.idle (c.in_ok-settle-in-Call.ensures.told tells start.tape.printed before))
 

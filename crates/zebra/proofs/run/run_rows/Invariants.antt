@@ -11,9 +11,9 @@ abbrev pub invariant-rows : goal.invariant-rows
 invariant-rows g l =
     IsOfOne l.script.geo
     × (has_work l.world.seen ≡ false)
-    × (IsTrue g.O.Bay.tells → (start : Start) → IsRunning start l.fn.script l.fn.source l.fn.world.seen (tape (g.O.Bay.streams l.fn.world.out) (g.O.Bay.meaning l.fn.world.out)) → IsRunning start l.script l.source l.world.seen (tape (g.O.Bay.streams l.world.out) (g.O.Bay.meaning l.world.out)))
-    × ((g.O.Bay.streams l.fn.world.out).read_faults ≤ (g.O.Bay.streams l.world.out).read_faults)
-    × ((g.O.Bay.streams l.fn.world.out).write_faults ≤ (g.O.Bay.streams l.world.out).write_faults)
+    × (IsTrue g.O.Bay.tells → (start : Start) → IsRunning start l.fn.script l.fn.source l.fn.world.seen (tape (g.O.Bay.counts l.fn.world.out).streams (g.O.Bay.meaning l.fn.world.out)) → IsRunning start l.script l.source l.world.seen (tape (g.O.Bay.counts l.world.out).streams (g.O.Bay.meaning l.world.out)))
+    × ((g.O.Bay.counts l.fn.world.out).streams.read_faults ≤ (g.O.Bay.counts l.world.out).streams.read_faults)
+    × ((g.O.Bay.counts l.fn.world.out).streams.write_faults ≤ (g.O.Bay.counts l.world.out).streams.write_faults)
 
 abbrev pub decreases-rows : goal.decreases-rows
 decreases-rows g l = max_script - l.script.used

@@ -1,0 +1,14 @@
+use Rattle.std.proofs.Common.{refl}
+use Rattle.zb_devices.specs.Record.{stands}
+use Rattle.zb_devices.specs.Memory.{tally}
+use Rattle.zb_devices.specs.declared.device.Change.TheVariants.{Synced}
+use Rattle.zb_devices.proofs.Kept.{kept_set, tallied_quiet, plate_there}
+use Rattle.zb_devices.proofs.device.Device.note_sync.Goals as goal
+
+pub returns-clause-kept : goal.returns-clause-kept
+returns-clause-kept c =
+    let es = c.args.self.now.events.items in
+    kept_set c.args.self.now _ c.args.platter Synced c.requires.kept c.in_ok-push.ensures.items refl refl refl c.if-self.false
+    (tallied_quiet es c.args.platter Synced (tally c.args.self.now) (c.requires.kept.tallied c.if-self.false) refl refl)
+    c.sync.new.self c.requires.platter refl
+    (c.sync.ensures (stands es c.args.platter) (plate_there c.args.self.now c.args.platter c.index_mut.result.now c.requires.kept c.requires.platter c.index_mut.ensures.value))

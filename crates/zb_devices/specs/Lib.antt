@@ -1,0 +1,9 @@
+pub mod Answers
+pub mod Faults
+pub mod FileOutside
+pub mod Images
+pub mod MemOutside
+pub mod Memory
+pub mod Plates
+pub mod Record
+pub mod Untold

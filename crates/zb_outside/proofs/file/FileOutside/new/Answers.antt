@@ -1,8 +1,0 @@
-use Rattle.zb_outside.specs.Images.{zeros}
-use Rattle.zb_outside.proofs.file.FileOutside.new.Goals as goal
-
-pub returns-clause-faults : goal.returns-clause-faults
-returns-clause-faults g c p = zeros 256 p
-
-pub returns-clause-writes : goal.returns-clause-writes
-returns-clause-writes g c p = zeros 256 p

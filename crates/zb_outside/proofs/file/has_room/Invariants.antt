@@ -1,5 +1,0 @@
-use Rattle.std.proofs.Common.{◌+◌, ◌-◌, length}
-use Rattle.zb_outside.proofs.file.has_room.Given as goal
-
-abbrev pub decreases-loop-places : goal.decreases-loop-places
-decreases-loop-places l = l.platter + 1 - length l.places.items

@@ -3,7 +3,7 @@ use Rattle.std.proofs.lemmas.Result.{on_ok_weaker}
 use Rattle.zb_types.specs.declared.nodes.Class.TheVariants.{Client}
 use Rattle.zb_plain.specs.Standing.{Entries, maps_of}
 use Rattle.zb_plain.specs.Indexed.{AllFitIndex}
-use Rattle.zb_plain.proofs.tests.write.Goals as goal
+use Rattle.zb_stripe_tests.proofs.plain.write.Goals as goal
 
 pub returns-clause-fit : goal.returns-clause-fit
 returns-clause-fit c =

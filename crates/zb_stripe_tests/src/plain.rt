@@ -3,9 +3,9 @@ ghost use Rattle.zb_plain.specs.Standing.{maps_of};
 ghost use Rattle.zb_plain.specs.Indexed.{AllFitIndex};
 ghost use Rattle.zb_plain.specs.Answering.{EndsInRange};
 
-use crate::{PlainServers, fragments_fit_index};
 use std::alloc::Global;
 use std::test::Fail;
+use zb_plain::{PlainServers, fragments_fit_index};
 use zb_stripe::{Flush, Got, Part, PartList};
 use zb_types::{
     ByteList, Class, FragId, Geometry, LenList, LogId, Mem, Ptr, Request, Response, ServerId,

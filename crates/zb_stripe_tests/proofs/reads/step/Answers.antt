@@ -2,7 +2,7 @@ use Rattle.std.proofs.Common.{ℕ, Option, Some, refl, sym, ap, ◌∙◌, subst
 use Rattle.zb_types.specs.declared.ids.ServerId.{ServerId}
 use Rattle.zb_types.specs.declared.requests.Request.{Request}
 use Rattle.zb_stripe.specs.Reading.{Answers, AnswersRetrieve}
-use Rattle.zb_stripe.proofs.read.tests.step.Goals as goal
+use Rattle.zb_stripe_tests.proofs.reads.step.Goals as goal
 
 pub feed-requires-2 : goal.feed-requires-2
 feed-requires-2 c =

@@ -17,7 +17,7 @@ use Rattle.zb_types.specs.declared.requests.Response.{Response}
 use Rattle.zb_types.specs.declared.requests.Response.TheVariants as told
 use Rattle.zb_holding.specs.Exclusive.{xor_at}
 use Rattle.zb_holding.specs.Placing.{share_length, share_of, frag_id, server_of}
-use Rattle.zb_holding.specs.Holding.{Maps, covered, CoversShares, ParityHolds, StripeHolds, is_away, standing, away_at}
+use Rattle.zb_holding.specs.Holding.{Maps, covered, CoversShares, ParityHolds, StripeHolds, is_away, standing, away_at, view_of}
 use Rattle.zb_holding.specs.Carrying.{found}
 use Rattle.zb_holding.proofs.Exclusives.{xor_more, without, xor_without, length-xored, get_or-xored}
 use Rattle.zb_stripe_laws.proofs.Away.{away_once}
@@ -33,7 +33,7 @@ use Rattle.zb_holding.proofs.Shares.{length-share_of}
 use Rattle.zb_stripe_laws.proofs.Ranges.{range_is, found_in_share, parity_range, length-parity_range, parity_range_at}
 
 module _ (n f : ℕ) (MayBeDown : ServerId → Type 0) (maps : Maps) (x : Option ServerId) (ptr : Ptr) (end : ℕ) (bytes : List ℕ)
-    (two : 2 ≤ n) (some : 0 < f) (inside : ptr.offset + ptr.len ≤ end) (held : StripeHolds n f maps x ptr.log ptr.stripe end bytes) where
+    (two : 2 ≤ n) (some : 0 < f) (inside : ptr.offset + ptr.len ≤ end) (held : StripeHolds (view_of n f maps x) ptr.log ptr.stripe end bytes) where
   abbrev pub mk : List Bool → List ℕ → Phase → Reading
   mk lost read phase = record { servers = n; fragment = f; ptr = ptr; lost = lost; read = read; phase = phase }
 
@@ -449,7 +449,7 @@ module _ (n f : ℕ) (MayBeDown : ServerId → Type 0) (maps : Maps) (x : Option
 
 -- A read of which one server at most is lost.
 module _ (n f : ℕ) (maps : Maps) (x z : Option ServerId) (ptr : Ptr) (end : ℕ) (bytes : List ℕ)
-    (two : 2 ≤ n) (some : 0 < f) (inside : ptr.offset + ptr.len ≤ end) (held : StripeHolds n f maps x ptr.log ptr.stripe end bytes) where
+    (two : 2 ≤ n) (some : 0 < f) (inside : ptr.offset + ptr.len ≤ end) (held : StripeHolds (view_of n f maps x) ptr.log ptr.stripe end bytes) where
   abbrev IsZ : ServerId → Type 0
   IsZ server = is_away z server ≡ true
 

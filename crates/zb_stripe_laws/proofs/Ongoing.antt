@@ -9,7 +9,7 @@ use Rattle.zb_types.specs.declared.requests.Response.TheVariants as told
 use Rattle.zb_types.specs.declared.requests.StoreFault.TheVariants as fault
 use Rattle.zb_holding.specs.Fragments.{Fragment, share_fragment, parity_fragment}
 use Rattle.zb_holding.specs.Placing.{share_of, frag_id, server_of}
-use Rattle.zb_holding.specs.Holding.{Maps, share_bytes, Begins, StripeHolds, standing, away_at}
+use Rattle.zb_holding.specs.Holding.{Maps, share_bytes, Begins, StripeHolds, standing, away_at, view_of}
 use Rattle.zb_holding.specs.Carrying.{found}
 use Rattle.zb_stripe.specs.declared.read.Got.{Got}
 use Rattle.zb_stripe.specs.declared.read.Got.TheVariants as got
@@ -96,7 +96,7 @@ module _ (n f : ℕ) (ptr : Ptr) (end : ℕ) (two : 2 ≤ n) (some : 0 < f) (ins
       let within = so.within in
       record { count = so.count; within = so.within; begins = so.begins ∙ same_range end ptr.offset (length read) one other (omega arith) same }
 
-  module _ (now : Maps) (x : Option ServerId) (bytes : List ℕ) (held : StripeHolds n f now x ptr.log ptr.stripe end bytes) where
+  module _ (now : Maps) (x : Option ServerId) (bytes : List ℕ) (held : StripeHolds (view_of n f now x) ptr.log ptr.stripe end bytes) where
     self_share : (o : Option Fragment) (bs : List ℕ) (limit : ℕ) → Begins o bs → IsGoneOrSame o o limit
     self_share None bs limit b = tt
     self_share (Some (share_fragment s)) bs limit b = refl

@@ -9,7 +9,7 @@ use Rattle.zb_types.specs.declared.requests.Response.TheVariants as told
 use Rattle.zb_types.specs.declared.requests.StoreFault.TheVariants as fault
 use Rattle.zb_holding.specs.Fragments.{Fragment, share_fragment, parity_fragment}
 use Rattle.zb_holding.specs.Exclusive.{xor_at}
-use Rattle.zb_holding.specs.Holding.{Maps, StripeHolds, covered, is_away, standing, away_at}
+use Rattle.zb_holding.specs.Holding.{Maps, view_of, StripeHolds, covered, is_away, standing, away_at}
 use Rattle.zb_holding.specs.Carrying.{found}
 use Rattle.zb_stripe.specs.declared.read.Got.{Got}
 use Rattle.zb_stripe.specs.declared.read.Got.TheVariants as got
@@ -117,7 +117,7 @@ pub record ReadAtWork (now : Maps) (end : ℕ) (bytes : List ℕ) (r : Reading) 
   pub seen : Maps
   pub y : Option ServerId
   pub then_bytes : List ℕ
-  pub held : StripeHolds r.servers r.fragment seen y r.ptr.log r.ptr.stripe end then_bytes
+  pub held : StripeHolds (view_of r.servers r.fragment seen y) r.ptr.log r.ptr.stripe end then_bytes
   pub same : take end then_bytes ≡ take end bytes
   pub so_far : SoFar r.servers r.fragment r.ptr then_bytes r.lost r.read
   pub fits : PhaseFits r.servers r.fragment r.ptr seen y then_bytes r.lost r.read r.phase

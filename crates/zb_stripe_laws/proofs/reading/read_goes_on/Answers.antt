@@ -6,10 +6,10 @@ use Rattle.zb_stripe_laws.proofs.Ongoing.{at_work, goes_on, stays}
 use Rattle.zb_stripe_laws.proofs.reading.read_goes_on.Goals as goal
 
 pub returns-clause-begins : goal.returns-clause-begins
-returns-clause-begins c n f now x out ptr end bytes two some long inside held =
-    let s = starts n f now x ptr end bytes two some inside out long in
-    subst (ReadAtWork now end bytes) (sym s.is)
-    (at_work n f ptr end two some inside now x bytes held (first_lost n ptr out) [] s.phase s.so_far s.fits)
+returns-clause-begins c v out ptr end bytes two some long inside held =
+    let s = starts v.servers v.fragment v.maps v.away ptr end bytes two some inside out long in
+    subst (ReadAtWork v.maps end bytes) (sym s.is)
+    (at_work v.servers v.fragment ptr end two some inside v.maps v.away bytes held (first_lost v.servers ptr out) [] s.phase s.so_far s.fits)
 
 pub returns-clause-stays : goal.returns-clause-stays
 returns-clause-stays c now new end bytes other r work two some inside same longer =

@@ -1,17 +1,19 @@
-ghost use Rattle.std.specs.Prelude.{◌≡◌, ℕ, ◌+◌, ◌-◌, ◌*◌, ◌<◌, ◌≤◌, false, List, length, take, drop, Option, IfSome, IsSome};
+ghost use Rattle.std.specs.Prelude.{◌≡◌, ℕ, ◌+◌, ◌*◌, ◌<◌, ◌≤◌, List, length, take, drop, Option, IfSome, IsSome};
 ghost use Rattle.zb_types.specs.declared.ids.ServerId.{ServerId};
 ghost use Rattle.zb_types.specs.declared.ids.Ptr.{Ptr};
 ghost use Rattle.zb_types.specs.declared.requests.Response.{Response};
-ghost use Rattle.zb_holding.specs.Holding.{Maps, View, view_of, StripeHolds, standing, away_at};
-ghost use Rattle.zb_stripe.specs.Reading.{Reading, start, asked, fed, answered};
+ghost use Rattle.zb_holding.specs.Holding.{Maps, View, view_of, StripeHolds, StripeRemains, is_away};
+ghost use Rattle.zb_stripe.specs.Reading.{Reading, start, server_at, is_lost, asked, fed, answered};
 ghost use Rattle.zb_stripe_laws.specs.ReadAtWork.{
   ReadAtWork,
+  StillGrow,
   WasLooked,
+  TellsOfFragment,
   IsOutOf,
   AllAnswer,
   MayAnswer,
   LeadsTo,
-  IsGoneOrLonger,
+  AsksOther,
 };
 
 use zb_stripe::Got;
@@ -32,20 +34,31 @@ pub fn read_gives_bytes()
         → (ptr.len + 1) * (v.servers + 2) ≤ length responses → IsSome (answered (start v.servers v.fragment ptr out) responses) }
 {}
 
-/// A read while others write, answer by answer: it begins at work, stays so over maps with the same committed bytes whose
-/// shares are gone or grow, and an answer from the maps of now leads it on or to an end that is right.
+/// A read while others write, answer by answer: it begins at work over what remains of its stripe, stays so over maps with
+/// the same committed bytes whose shares are gone or grow, and an answer from the maps of now leads it on or to an end that
+/// is right. It is gone only where the fragment that is asked for isn't there: of a stripe that is held, another share than
+/// the range's own.
 pub fn read_goes_on()
     ensures begins { (v : View) (out : Option ServerId) (ptr : Ptr) (end : ℕ) (bytes : List ℕ)
         → 2 ≤ v.servers → 0 < v.fragment → 0 < ptr.len → ptr.offset + ptr.len ≤ end
-        → StripeHolds v ptr.log ptr.stripe end bytes → ReadAtWork v.maps end bytes (start v.servers v.fragment ptr out) }
+        → StripeRemains v ptr.log ptr.stripe end bytes
+        → ReadAtWork v.maps end bytes (start v.servers v.fragment ptr out) }
+    ensures first { (n f : ℕ) (ptr : Ptr) (out : Option ServerId) (k : ℕ)
+        → k < n → is_lost (start n f ptr out) k ≡ is_away out (server_at (start n f ptr out) k) }
     ensures stays { (now new : Maps) (end : ℕ) (bytes other : List ℕ) (r : Reading) (work : ReadAtWork now end bytes r)
         → 2 ≤ r.servers → 0 < r.fragment → r.ptr.offset + r.ptr.len ≤ end → take end bytes ≡ take end other
-        → ((j : ℕ) → j < r.servers - 1 → away_at r.servers work.y r.ptr.log r.ptr.stripe j ≡ false
-        → IsGoneOrLonger (standing r.servers new r.ptr.log r.ptr.stripe j) (standing r.servers now r.ptr.log r.ptr.stripe j))
+        → StillGrow r.servers r.ptr now new work.y r.phase
         → ReadAtWork new end other r }
     ensures goes_on { (now : Maps) (x : Option ServerId) (end : ℕ) (bytes : List ℕ) (r : Reading) (response : Response) (work : ReadAtWork now end bytes r)
         → 2 ≤ r.servers → 0 < r.fragment → r.ptr.offset + r.ptr.len ≤ end
+        → StripeRemains (view_of r.servers r.fragment now x) r.ptr.log r.ptr.stripe end bytes
+        → (TellsOfFragment response → WasLooked r.servers r.ptr work.y r.phase)
+        → MayAnswer now x (asked r) response
+        → LeadsTo now end bytes r response (fed r response).0 (fed r response).1 }
+    ensures gone { (now : Maps) (x : Option ServerId) (end : ℕ) (bytes : List ℕ) (r : Reading) (response : Response)
+        → ReadAtWork now end bytes r
+        → 2 ≤ r.servers → 0 < r.fragment → r.ptr.offset + r.ptr.len ≤ end
         → StripeHolds (view_of r.servers r.fragment now x) r.ptr.log r.ptr.stripe end bytes
-        → WasLooked r.servers r.ptr work.y r.phase
-        → MayAnswer now x (asked r) response → LeadsTo now end bytes r (fed r response).0 (fed r response).1 }
+        → MayAnswer now x (asked r) response → (fed r response).1 ≡ Got.Gone
+        → AsksOther r.phase }
 {}

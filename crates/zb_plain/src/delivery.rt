@@ -35,7 +35,7 @@ impl PlainServers {
     /// first of them are carried out.
     pub fn write(&mut self, alloc: Global, geo: &Geometry, flush: &Flush, class: Class) -> Mem<()>
         requires servers { length self.old ≡ geo.now.servers }
-        requires fits { All (IsWritable geo.now.servers geo.now.fragment) flush.now.parts }
+        requires fits { All (IsWritable ((geo.now.servers - 1) * geo.now.fragment)) flush.now.parts }
         requires differ { StripesDiffer flush.now.parts }
         requires begin { All (MayBegin (seen_at geo.now self.old) flush.now.log) flush.now.parts }
         ensures ok { OnOk result (maps_of self.new

@@ -1,4 +1,4 @@
-ghost use Rattle.std.specs.Prelude.{◌≡◌, ℕ, List, [], ◌+◌, ◌-◌, ◌*◌, ◌<◌, ◌≤◌, IfOk, OnOk, OnErr, length, map, option_map};
+ghost use Rattle.std.specs.Prelude.{◌≡◌, ℕ, true, false, List, [], ◌+◌, ◌-◌, ◌*◌, ◌<◌, ◌≤◌, IfOk, OnOk, OnErr, length, map, option_map};
 ghost use Rattle.std.specs.List.{range_with_len};
 ghost use Rattle.zb_types.specs.declared.ids.ServerId.{ServerId};
 ghost use Rattle.zb_types.specs.declared.ids.FragId.{FragId};
@@ -116,6 +116,40 @@ fn gain(alloc: Global, ptr: &Ptr, read: &ByteList) -> Mem<Got>
     }
 }
 
+/// Whether a fault may refuse a retrieve.
+fn may_refuse(fault: &StoreFault) -> bool
+    ensures fits { (servers : ℕ) (id : FragId) (len : ℕ)
+        → result ≡ true → AnswersRetrieve servers id len (Response.Refused fault.now) }
+    ensures differs { (servers : ℕ) (id : FragId) (len : ℕ)
+        → result ≡ false → ¬ (AnswersRetrieve servers id len (Response.Refused fault.now)) }
+{
+    match fault {
+        StoreFault::NoFragment
+        | StoreFault::Short { .. }
+        | StoreFault::OldGeneration { .. }
+        | StoreFault::NoMemory => true,
+        _ => false,
+    }
+}
+
+/// Whether this may answer a retrieve of `len` bytes of a fragment, placed among so many servers.
+fn may_answer(servers: u32, id: FragId, len: u32, response: &Response) -> bool
+    requires { 0 < servers }
+    ensures fits { result ≡ true → AnswersRetrieve servers id len response.now }
+    ensures differs { result ≡ false → ¬ (AnswersRetrieve servers id len response.now) }
+{
+    let of_parity = u32::from(id.index) == servers - 1;
+    match response {
+        Response::Bytes(bytes) => !of_parity && bytes.len() == len as usize,
+        Response::Parity { lengths, bytes } => {
+            of_parity && lengths.len() == (servers - 1) as usize && bytes.len() == len as usize
+        }
+        Response::Refused(fault) => may_refuse(fault),
+        Response::Down | Response::Blank => true,
+        Response::Done | Response::Ids(_) => false,
+    }
+}
+
 impl ReadPlan {
     /// Each range of the pointer, in order: from its server; where that is left away, down or blank, from the parity
     /// for the same range and then by index from each other share that the parity covers into the range. `out` is the
@@ -133,6 +167,21 @@ impl ReadPlan {
         let request = ask(&source, &progress);
         Ok(ReadPlan {
             source,
+            lost,
+            progress,
+            request,
+        })
+    }
+
+    /// The same read once more, so that it may be fed and given up for want of memory.
+    pub fn copy(&self, alloc: Global) -> Mem<ReadPlan>
+        ensures { IfOk result (λ plan. plan ≡ self.now) }
+    {
+        let lost = Vec::from_slice(alloc, &self.lost)?;
+        let progress = self.progress.copy(alloc)?;
+        let request = ask(&self.source, &progress);
+        Ok(ReadPlan {
+            source: self.source,
             lost,
             progress,
             request,
@@ -213,6 +262,20 @@ impl ReadPlan {
             Response::Refused(StoreFault::OldGeneration { now }) => Ok(Got::Old { now: *now }),
             Response::Down | Response::Blank => Ok(self.lose()),
             _ => Ok(Got::Gone),
+        }
+    }
+
+    /// Whether this may answer the request that stands. A server whose disk tells nothing may answer anything, so who
+    /// asks one looks first.
+    pub fn fits(&self, response: &Response) -> bool
+        ensures fits { result ≡ true → Answers self.now.servers (asked self.now) response.now }
+        ensures differs { result ≡ false → ¬ (Answers self.now.servers (asked self.now) response.now) }
+    {
+        match self.next() {
+            Some((_, Request::Retrieve { id, len, .. })) => {
+                may_answer(self.source.geo.servers, *id, *len, response)
+            }
+            _ => false,
         }
     }
 

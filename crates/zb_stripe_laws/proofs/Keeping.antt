@@ -89,7 +89,7 @@ module _ (m f : ℕ) (bytes : List ℕ) (b end : ℕ) (away : ℕ → Bool) (old
         parity = λ a. subst (ParityHolds m f new away end bytes) (sym (g.left m le a)) (grown_parity (old m) (h.parity a));
       }
 
-module _ (n f : ℕ) (out x : Option ServerId) (class : Class) (log : LogId) (part : Part) (spared : IsSpared out x) (fits : IsWritable n f part) where
+module _ (n f : ℕ) (out x : Option ServerId) (class : Class) (log : LogId) (part : Part) (spared : IsSpared out x) (fits : IsWritable ((n - 1) * f) part) where
   abbrev Away : ℕ → Bool
   Away = away_at n x log part.stripe
 

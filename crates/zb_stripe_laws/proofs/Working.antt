@@ -1,5 +1,5 @@
 -- A part of a flush, request by request.
-use Rattle.std.proofs.Common.{◌≡◌, ◌≢◌, ◌⊎◌, ℕ, zero, suc, ◌+◌, ◌-◌, ◌<◌, ◌≤◌, Bool, false, List, [], ◌∷◌, ◌++◌, length, take, Option, Some, refl, sym, ap, ◌∙◌, subst, inl, inr, arith}
+use Rattle.std.proofs.Common.{◌≡◌, ◌≢◌, ◌⊎◌, ℕ, zero, suc, ◌+◌, ◌-◌, ◌*◌, ◌<◌, ◌≤◌, Bool, false, List, [], ◌∷◌, ◌++◌, length, take, Option, Some, refl, sym, ap, ◌∙◌, subst, inl, inr, arith}
 use Rattle.std.specs.Prelude.{◌&&◌, ◌==◌, if◌then◌else◌, slice_get}
 use Rattle.std.specs.List.{flat_map}
 use Rattle.std.proofs.lemmas.Bool.{and_right}
@@ -63,7 +63,7 @@ module _ (n f : ℕ) (out : Option ServerId) (class : Class) (log : LogId) (part
   seen maps start x end i now h =
       holds_seen (n - 1) f (standing n (carried_all start (take i Requests)) log part.stripe) (standing n maps log part.stripe) (away_at n x log part.stripe) end part.bytes now h
 
-  module _ (fits : IsWritable n f part) where
+  module _ (fits : IsWritable ((n - 1) * f) part) where
     -- what is committed stands with the part's bytes
     pub at_work_holds : (maps : Maps) (x : Option ServerId) (end i : ℕ) → IsSpared out x → 0 < end → end ≤ part.begin
         → PartAtWork (view_of n f maps x) out class log part i → StripeHolds (view_of n f maps x) log part.stripe end part.bytes
@@ -103,7 +103,7 @@ module _ (n f : ℕ) (x : Option ServerId) (log : LogId) (part : Part) (start : 
         subst (λ o. Begins o (share_of f part.bytes k)) (sym none) tt,
       )
 
-module _ (n f : ℕ) (x out : Option ServerId) (class : Class) (log : LogId) (part : Part) (spared : IsSpared out x) (fits : IsWritable n f part) where
+module _ (n f : ℕ) (x out : Option ServerId) (class : Class) (log : LogId) (part : Part) (spared : IsSpared out x) (fits : IsWritable ((n - 1) * f) part) where
   -- before the last of its requests, a part's stripe is at work
   pub between_requests : (maps : Maps) (i : ℕ) (w : PartAtWork (view_of n f maps x) out class log part i) → i < length (part_requests n f out class log part)
       → (j : ℕ) × (j ≤ n - 1) × StripeAtWork f part.bytes (away_at n x log part.stripe) (standing n w.start log part.stripe) (standing n maps log part.stripe) j

@@ -26,18 +26,18 @@ ghost use Rattle.zb_stripe_laws.specs.PartAtWork.{
 /// Carrying out a part's requests keeps what its stripe holds at each of them, and adds the part's bytes in the end.
 pub fn part_keeps_stripe()
     ensures each { (v : View) (out : Option ServerId) (class : Class) (log : LogId) (part : Part) (end : ℕ)
-        → IsWritable v.servers v.fragment part → end ≤ part.begin → IsSpared out v.away
+        → IsWritable ((v.servers - 1) * v.fragment) part → end ≤ part.begin → IsSpared out v.away
         → StripeHolds v log part.stripe end (take part.begin part.bytes)
         → StandsUpTo v log part.stripe part.begin
         → (i : ℕ)
         → StripeHolds (after_requests v (take i (part_requests v.servers v.fragment out class log part))) log part.stripe end part.bytes }
     ensures whole { (v : View) (out : Option ServerId) (class : Class) (log : LogId) (part : Part) (end : ℕ)
-        → IsWritable v.servers v.fragment part → end ≤ part.begin → IsSpared out v.away
+        → IsWritable ((v.servers - 1) * v.fragment) part → end ≤ part.begin → IsSpared out v.away
         → StripeHolds v log part.stripe end (take part.begin part.bytes)
         → StandsUpTo v log part.stripe part.begin
         → StripeHolds (after_requests v (part_requests v.servers v.fragment out class log part)) log part.stripe (length part.bytes) part.bytes }
     ensures fresh { (v : View) (out : Option ServerId) (class : Class) (log : LogId) (part : Part)
-        → IsWritable v.servers v.fragment part → part.begin ≡ 0 → IsSpared out v.away → IsUnwritten v log part.stripe
+        → IsWritable ((v.servers - 1) * v.fragment) part → part.begin ≡ 0 → IsSpared out v.away → IsUnwritten v log part.stripe
         → StripeHolds (after_requests v (part_requests v.servers v.fragment out class log part)) log part.stripe (length part.bytes) part.bytes }
 {}
 
@@ -51,14 +51,14 @@ pub fn plan_keeps_stripes()
         → PartAtWork (after_requests v (take i (plan_requests v.servers v.fragment out class flush))) out class flush.log part
         (i - length (flat_map (part_requests v.servers v.fragment out class flush.log) before)) }
     ensures each { (v : View) (out : Option ServerId) (class : Class) (flush : Flush) (before after : List Part) (part : Part) (end : ℕ)
-        → flush.parts ≡ before ++ part ∷ after → StripesDiffer flush.parts → IsWritable v.servers v.fragment part
+        → flush.parts ≡ before ++ part ∷ after → StripesDiffer flush.parts → IsWritable ((v.servers - 1) * v.fragment) part
         → end ≤ part.begin → IsSpared out v.away
         → StripeHolds v flush.log part.stripe end (take part.begin part.bytes)
         → StandsUpTo v flush.log part.stripe part.begin
         → (i : ℕ)
         → StripeHolds (after_requests v (take i (plan_requests v.servers v.fragment out class flush))) flush.log part.stripe end part.bytes }
     ensures whole { (v : View) (out : Option ServerId) (class : Class) (flush : Flush) (before after : List Part) (part : Part)
-        → flush.parts ≡ before ++ part ∷ after → StripesDiffer flush.parts → IsWritable v.servers v.fragment part
+        → flush.parts ≡ before ++ part ∷ after → StripesDiffer flush.parts → IsWritable ((v.servers - 1) * v.fragment) part
         → IsSpared out v.away → MayBegin v flush.log part
         → StripeHolds (after_requests v (plan_requests v.servers v.fragment out class flush)) flush.log part.stripe (length part.bytes) part.bytes }
     ensures others { (n f : ℕ) (maps : Maps) (out : Option ServerId) (class : Class) (flush : Flush) (log : LogId) (stripe i k : ℕ)
@@ -83,14 +83,14 @@ pub fn part_at_work()
         → PartAtWork v out class log part i → PartAtWork (with_maps v new) out class log part i }
     ensures between { (v : View) (out : Option ServerId) (class : Class) (log : LogId) (part : Part) (i : ℕ)
         (work : PartAtWork v out class log part i)
-        → IsWritable v.servers v.fragment part → IsSpared out v.away → i < length (part_requests v.servers v.fragment out class log part)
+        → IsWritable ((v.servers - 1) * v.fragment) part → IsSpared out v.away → i < length (part_requests v.servers v.fragment out class log part)
         → (j : ℕ) × (j ≤ v.servers - 1)
         × StripeAtWork v.fragment part.bytes (away_at v.servers v.away log part.stripe) (standing v.servers work.start log part.stripe) (standing v.servers v.maps log part.stripe) j }
     ensures holds { (v : View) (out : Option ServerId) (class : Class) (log : LogId) (part : Part) (end i : ℕ)
-        → IsWritable v.servers v.fragment part → IsSpared out v.away → 0 < end → end ≤ part.begin
+        → IsWritable ((v.servers - 1) * v.fragment) part → IsSpared out v.away → 0 < end → end ≤ part.begin
         → PartAtWork v out class log part i → StripeHolds v log part.stripe end part.bytes }
     ensures ends { (v : View) (out : Option ServerId) (class : Class) (log : LogId) (part : Part) (i : ℕ)
-        → IsWritable v.servers v.fragment part → IsSpared out v.away → length (part_requests v.servers v.fragment out class log part) ≤ i
+        → IsWritable ((v.servers - 1) * v.fragment) part → IsSpared out v.away → length (part_requests v.servers v.fragment out class log part) ≤ i
         → PartAtWork v out class log part i
         → StripeHolds v log part.stripe (length part.bytes) part.bytes }
 {}

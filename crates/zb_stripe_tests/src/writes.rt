@@ -1,5 +1,4 @@
 ghost use Rattle.std.specs.Prelude.{◌≡◌};
-ghost use Rattle.zb_stripe.specs.Feeding.{AnswersWrite};
 
 use std::alloc::Global;
 use std::test::Fail;
@@ -27,7 +26,6 @@ fn plan(alloc: Global, geo: &Geometry, out: Option<ServerId>) -> Mem<WritePlan>
 
 /// Feeds one answer, and gives the server that was asked with what the answer comes to.
 fn step(plan: &mut WritePlan, response: &Response) -> Option<(u8, Fed)>
-    requires { AnswersWrite response.now }
 {
     let server = match plan.next() {
         Some((server, _)) => server.0,

@@ -1,6 +1,5 @@
-pub mod Keys
 pub mod Exclusives
-pub mod FragNames
+pub mod Keys
 pub mod Listed
 pub mod Placings
 pub mod Ruled

@@ -9,13 +9,13 @@ use Rattle.std.specs.Map.{lookup, keys_of}
 use Rattle.std.specs.BTreeMap.Range.{range_contains, entries_between}
 use Rattle.std.specs.declared.ops.Bound.TheVariants.{Unbounded}
 use Rattle.std.specs.Ordering.{is_lt}
-use Rattle.std.proofs.lemmas.List.{take_all, take-append-le, length-take}
+use Rattle.std.proofs.lemmas.List.{length-take}
 use Rattle.std.proofs.lemmas.List.Elements.{All-nil, All-cons}
 use Rattle.zb_types.specs.declared.ids.FragId.{FragId}
 use Rattle.zb_types.specs.Order.{frag_cmp}
 use Rattle.zb_holding.specs.Carrying.{same_frag}
 use Rattle.zb_holding.specs.Listing.{start_above, is_above, names_above, most_names, is_listed, IsBehind, AreLeastAbove}
-use Rattle.zb_holding.proofs.FragNames.{same_frag-is}
+use Rattle.zb_holding.proofs.Keys.{same_frag-is}
 
 and_true : (b : Bool) → (b && true) ≡ b
 and_true true = refl
@@ -24,11 +24,6 @@ and_true false = refl
 contains-above : (after : Option FragId) (id : FragId) → range_contains frag_cmp (start_above after) Unbounded id ≡ is_above after id
 contains-above None id = refl
 contains-above (Some after) id = and_true (is_lt (frag_cmp after id))
-
--- a list that has n items already begins with them
-pub take-front : (n : ℕ) (front rest all : List FragId) → length front ≡ n → front ++ rest ≡ all → front ≡ take n all
-take-front n front rest all long is =
-    sym (take_all n front (omega (arith, long))) ∙ sym (take-append-le n front rest (omega (arith, long))) ∙ ap (λ s. take n s) is
 
 module _ {A : Type 0} where
   -- a range of an ordered map lists the names above another

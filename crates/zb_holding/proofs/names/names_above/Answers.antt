@@ -7,7 +7,8 @@ use Rattle.std.proofs.lemmas.List.{append-nil, append_assoc, take_all}
 use Rattle.zb_types.specs.Order.{frag_cmp}
 use Rattle.zb_holding.specs.Carrying.{same_frag}
 use Rattle.zb_holding.specs.Listing.{names_above, most_names, AreLeastAbove}
-use Rattle.zb_holding.proofs.Listed.{names-between, take-front, least_above}
+use Rattle.zb_holding.proofs.Listed.{names-between, least_above}
+use Rattle.zb_holding.proofs.Keys.{take-front}
 use Rattle.zb_holding.proofs.names.names_above.Goals as goal
 
 pub loop-id-init : goal.loop-id-init

@@ -15,8 +15,9 @@ use Rattle.zb_types.specs.declared.requests.Response.TheVariants as told
 use Rattle.zb_types.specs.declared.requests.StoreFault.TheVariants as fault
 use Rattle.zb_holding.specs.Fragments.{Fragment, share_fragment, parity_fragment}
 use Rattle.zb_holding.specs.Placing.{share_length, frag_id, server_of}
-use Rattle.zb_holding.specs.Holding.{Maps, is_away, standing, away_at}
+use Rattle.zb_holding.specs.Holding.{Maps, is_away, standing, away_at, view_of}
 use Rattle.zb_holding.specs.Carrying.{carried, carried_all}
+use Rattle.zb_holding.specs.Rules.{stand_at}
 use Rattle.zb_stripe.specs.declared.flush.Part.{Part}
 use Rattle.zb_stripe.specs.declared.flush.Flush.{Flush}
 use Rattle.zb_stripe.specs.Writing.{grow, unless_out, new_bytes, share_request, share_requests, lengths_of, parity_bytes, parity_request, part_requests, plan_requests}
@@ -25,7 +26,8 @@ use Rattle.zb_stripe_laws.proofs.Elsewhere.{Silent, silent_first}
 use Rattle.zb_stripe_laws.proofs.Growing.{about_grow}
 use Rattle.zb_stripe_laws.proofs.Working.{parts_at_work, others_elsewhere}
 use Rattle.zb_plain.specs.Standing.{Entries, stands_in, entries_of, maps_of}
-use Rattle.zb_plain.specs.Answering.{stand_at, answer_to_store, answer_to_append, answer_of}
+use Rattle.zb_plain.specs.Answering.{unless_refused, answer_of}
+use Rattle.zb_plain.proofs.Ruling.{store_free, append_some, parity_done}
 use Rattle.zb_plain.proofs.Planned.{Requests, get-front, get-behind, of_part}
 
 -- ---- at most one request, and this one
@@ -48,23 +50,25 @@ only_unless_out n out id request =
 
 -- ---- what is answered to a share that grows
 
-free_is_done : (stands : Option Fragment) → HasBytes stands 0 → answer_to_store stands ≡ told.Done
-free_is_done None has = refl
-free_is_done (Some (share_fragment bytes)) has = absurd (omega (arith, has.0))
-free_is_done (Some (parity_fragment lengths bytes)) has = absurd has
+has_none : (stands : Option Fragment) → HasBytes stands 0 → stands ≡ None
+has_none None has = refl
+has_none (Some (share_fragment bytes)) has = absurd (omega (arith, has.0))
+has_none (Some (parity_fragment lengths bytes)) has = absurd has
 
-end_is_done : (stands : Option Fragment) (had : ℕ) (bytes : List ℕ) → HasBytes stands (suc had) → answer_to_append stands (suc had) bytes ≡ told.Done
-end_is_done None had bytes has = absurd (omega (arith, has))
-end_is_done (Some (share_fragment share)) had bytes has =
-    ap (λ b. cond b told.Done (told.Refused (fault.Offset (length share))))
+end_is_done : (entries : Entries) (id : FragId) (stands : Option Fragment) (had : ℕ) (bytes : List ℕ) → stands_in entries id ≡ stands → HasBytes stands (suc had)
+    → answer_of entries (ask.Append id (suc had) bytes) ≡ told.Done
+end_is_done entries id None had bytes is has = absurd (omega (arith, has))
+end_is_done entries id (Some (share_fragment share)) had bytes is has =
+    append_some entries id (suc had) bytes (share_fragment share) is
+    ∙ ap (λ b. unless_refused (cond b None (Some (fault.Offset (length share)))) told.Done)
     (or_right (stand_at share (suc had) bytes) (eqb (suc had) (length share)) (eq-eqb (suc had) (length share) (sym has.1)))
-end_is_done (Some (parity_fragment lengths parity)) had bytes has = absurd has
+end_is_done entries id (Some (parity_fragment lengths parity)) had bytes is has = absurd has
 
 grow_is_done : (entries : Entries) (id : FragId) (class : Class) (had : ℕ) (bytes : List ℕ) → HasBytes (stands_in entries id) had → answer_of entries (grow id class had bytes) ≡ told.Done
-grow_is_done entries id class zero bytes has = free_is_done (stands_in entries id) has
+grow_is_done entries id class zero bytes has = store_free entries id bytes class (has_none (stands_in entries id) has)
 grow_is_done entries id class (suc had) bytes has =
     ap (λ b. answer_of entries (cond b (ask.Store id bytes class) (ask.Append id (suc had) bytes))) (ne_eqb (suc had) 0 (λ e. omega (arith, e)))
-    ∙ end_is_done (stands_in entries id) had bytes has
+    ∙ end_is_done entries id (stands_in entries id) had bytes refl has
 
 module _ (n f : ℕ) (out : Option ServerId) (class : Class) (log : LogId) (part : Part) where
   frag : ℕ → FragId
@@ -130,7 +134,7 @@ module _ (n f : ℕ) (out : Option ServerId) (class : Class) (log : LogId) (part
       both (x ∷ xs) ys a b = (a.0, both xs ys a.1 b)
 
   -- as a part begins, each share ends where the stripe's first bytes end
-  has_begun : (start : Maps) (x : Option ServerId) → MayBegin n f start x log part → (k : ℕ) → k < n - 1 → away_at n x log part.stripe k ≡ false
+  has_begun : (start : Maps) (x : Option ServerId) → MayBegin (view_of n f start x) log part → (k : ℕ) → k < n - 1 → away_at n x log part.stripe k ≡ false
       → HasBytes (standing n start log part.stripe k) (share_length f part.begin k)
   has_begun start x (inl b) k below away = b.stands k below away
   has_begun start x (inr b) k below away =
@@ -138,7 +142,7 @@ module _ (n f : ℕ) (out : Option ServerId) (class : Class) (log : LogId) (part
       subst (λ o. HasBytes o (share_length f part.begin k)) (sym (b.unwritten k (omega (arith, below)) away)) (omega (arith, first))
 
   -- the i-th request of a part at work is carried out
-  pub part_is_done : (servers : List Entries) (x : Option ServerId) (i : ℕ) (r : ServerId × Request) → PartAtWork n f (maps_of servers) x out class log part i
+  pub part_is_done : (servers : List Entries) (x : Option ServerId) (i : ℕ) (r : ServerId × Request) → PartAtWork (view_of n f (maps_of servers) x) out class log part i
       → slice_get (part_requests n f out class log part) i ≡ Some r → is_away x r.0 ≡ false → answer_of (entries_of servers r.0) r.1 ≡ told.Done
   unfolding frag share_grows
   part_is_done servers x i r work e away =
@@ -159,7 +163,7 @@ module _ (n f : ℕ) (out : Option ServerId) (class : Class) (log : LogId) (part
             let id = frag_id log part.stripe (n - 1) in
             let only = only_unless_out n out id (ask.Parity id (lengths_of n f part) (parity_bytes n f part) class) (i - length (shares (n - 1))) r
             (sym (get-behind (shares (n - 1)) parity i (i - length (shares (n - 1))) (omega (arith, past))) ∙ e) in
-            subst Done (sym only.1) refl
+            subst Done (sym only.1) (parity_done (entries_of servers (server_of n id)) id (lengths_of n f part) (parity_bytes n f part) class)
       ]
 
 one_of_all : (P : Part → Type 0) (before after : List Part) (part : Part) → All P (before ++ part ∷ after) → P part
@@ -168,7 +172,7 @@ one_of_all P before after part all =
 
 -- the i-th request of a plan is carried out, where its parts may begin
 pub plan_is_done : (n f : ℕ) (servers : List Entries) (maps : Maps) (out x : Option ServerId) (class : Class) (flush : Flush) (i : ℕ) (asked : ServerId × Request)
-    → StripesDiffer flush.parts → All (MayBegin n f maps x flush.log) flush.parts
+    → StripesDiffer flush.parts → All (MayBegin (view_of n f maps x) flush.log) flush.parts
     → slice_get (plan_requests n f out class flush) i ≡ Some asked → is_away x asked.0 ≡ false
     → maps_of servers ≡ carried_all maps (take i (plan_requests n f out class flush))
     → answer_of (entries_of servers asked.0) asked.1 ≡ told.Done
@@ -176,12 +180,12 @@ plan_is_done n f servers maps out x class flush i asked differ begin e away is =
     let g = part_requests n f out class flush.log in
     let of = of_part g flush.parts i asked e in
     let elsewhere = others_elsewhere of.before of.after of.part (subst StripesDiffer of.is differ) in
-    let begins = one_of_all (MayBegin n f maps x flush.log) of.before of.after of.part (subst (All (MayBegin n f maps x flush.log)) of.is begin) in
+    let begins = one_of_all (MayBegin (view_of n f maps x) flush.log) of.before of.after of.part (subst (All (MayBegin (view_of n f maps x) flush.log)) of.is begin) in
     let j = i - length (flat_map g of.before) in
     let work = parts_at_work n f out class flush.log maps x of.before of.after of.part i elsewhere.0 elsewhere.1 begins in
     let now : carried_all maps (take i (flat_map g (of.before ++ of.part ∷ of.after))) ≡ maps_of servers =
     ap (λ (ps : List Part). carried_all maps (take i (flat_map g ps))) (sym of.is) ∙ sym is in
-    part_is_done n f out class flush.log of.part servers x j asked (subst (λ (ms : Maps). PartAtWork n f ms x out class flush.log of.part j) now work) of.place away
+    part_is_done n f out class flush.log of.part servers x j asked (subst (λ (ms : Maps). PartAtWork (view_of n f ms x) out class flush.log of.part j) now work) of.place away
 
 -- one more request is carried out
 pub carried_next : (maps : Maps) (plan : Requests) (i : ℕ) (asked : ServerId × Request) → slice_get plan i ≡ Some asked → carried_all maps (take (suc i) plan) ≡ carried (carried_all maps (take i plan)) asked

@@ -1,14 +1,17 @@
 pub mod Agreeing
 pub mod Away
+pub mod Beside
 pub mod Carrying
 pub mod Cutting
 pub mod Elsewhere
 pub mod Gathering
 pub mod Growing
 pub mod Keeping
+pub mod Left
 pub mod Mended
 pub mod NotEmpty
 pub mod Ongoing
+pub mod Plans
 pub mod Ranges
 pub mod Rebuilt
 pub mod Seeing

@@ -12,6 +12,3 @@ pub use laws::no_address_twice;
 pub use log::LogBuf;
 pub use placed::{LogFault, PieceList, Placed, PtrList};
 pub use places::Place;
-
-#[cfg(test)]
-mod tests;

@@ -1,8 +1,8 @@
 ghost use Rattle.std.specs.Prelude.{◌≡◌, ◌≤◌, OnOk};
 
-use super::*;
 use std::alloc::Global;
 use std::test::Fail;
+use zb_log::{LogBuf, LogFault, Placed, no_address_twice};
 use zb_stripe::Flush;
 use zb_types::{ByteList, Geometry, LogId, Piece, Ptr};
 

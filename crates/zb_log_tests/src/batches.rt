@@ -1,6 +1,6 @@
-use super::*;
 use std::alloc::Global;
 use std::test::Fail;
+use zb_batch::Batch;
 use zb_types::{LogId, Mem};
 
 /// The meta part of a run's first batch, which creates `/a`.
@@ -72,6 +72,7 @@ fn batches_are_read_and_written(rt: HostRuntime) -> Result<(), Fail> {
         joined(alloc, 49, 1, 0, &[&RENAME])?,
         joined(alloc, 161, 3, 1, &[&WRITE, &DELTA, &CUT, &SYNC])?,
         joined(alloc, 103, 1, 1, &[&CLEAN, &clean])?,
+        joined(alloc, 104, 8, 0, &[SYNC.as_slice(); 8])?,
     ];
     for (i, bytes) in rows.iter().enumerate() {
         let (written, len) = read_and_written(alloc, bytes)?.ok_or("a batch")?;
@@ -109,6 +110,7 @@ fn near_misses_are_no_batches(rt: HostRuntime) -> Result<(), Fail> {
             "byte {at} as {byte}"
         );
     }
+    assert!(rt; Batch::read(rt.alloc(), &FIRST_CREATE[..44])?.is_none());
     Ok(())
 }
 
@@ -119,15 +121,21 @@ fn operations_that_do_not_fit_are_no_batches(rt: HostRuntime) -> Result<(), Fail
     other[4] = 2;
     let mut late = DELTA;
     late[12] = 2;
+    let mut clean = DELTA;
+    clean[0] = 2;
     let mut called = CLEAN;
     called[8] = 1;
+    let mut twice = CUT;
+    twice[28] = 2;
     let rows = [
-        joined(alloc, 41, 1, 0, &[&CUT, &SYNC])?,
+        joined(alloc, 70, 1, 0, &[&CUT, &SYNC])?,
+        joined(alloc, 113, 9, 0, &[SYNC.as_slice(); 9])?,
+        joined(alloc, 177, 1, 2, &[&twice, &DELTA, &DELTA])?,
         joined(alloc, 58, 2, 0, &[&RENAME, &SYNC])?,
         joined(alloc, 123, 1, 1, &[&WRITE, &other])?,
         joined(alloc, 123, 1, 1, &[&WRITE, &late])?,
         joined(alloc, 103, 1, 1, &[&CLEAN, &DELTA])?,
-        joined(alloc, 103, 1, 1, &[&called, &DELTA])?,
+        joined(alloc, 103, 1, 1, &[&called, &clean])?,
     ];
     for (i, bytes) in rows.iter().enumerate() {
         assert!(rt; Batch::read(alloc, bytes)?.is_none(), "row {i}");

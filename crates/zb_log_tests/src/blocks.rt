@@ -1,9 +1,9 @@
 ghost use Rattle.std.specs.Prelude.{◌≡◌, ◌≤◌, All, IfOk, OnOk, length};
 ghost use Rattle.zb_blocks.specs.Blocks.{IsStored};
 
-use super::*;
 use std::alloc::Global;
 use std::test::Fail;
+use zb_blocks::{Blocks, blocks_stay};
 use zb_types::{ByteList, Geometry, LogId, Mem, Ptr};
 
 /// A block of so many bytes, each the same.

@@ -1,7 +1,7 @@
 use Rattle.std.proofs.Common.{◌≡◌}
 use Rattle.std.specs.Prelude.{All}
 use Rattle.zb_blocks.specs.Blocks.{IsStored}
-use Rattle.zb_blocks.proofs.tests.blocks_are_got_back_over_many_stripes.Given as goal
+use Rattle.zb_log_tests.proofs.blocks.blocks_are_got_back_over_many_stripes.Given as goal
 
 abbrev pub invariant-loop-byte : goal.invariant-loop-byte
 invariant-loop-byte g l = record {

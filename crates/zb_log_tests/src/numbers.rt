@@ -1,5 +1,5 @@
-use super::*;
 use std::test::Fail;
+use zb_numbers::{are_zeros, push_u16, push_u32, push_u64, split_u16, split_u32, split_u64};
 use zb_types::ByteList;
 
 const BYTES: [u8; 14] = [1, 2, 3, 4, 5, 6, 7, 8, 9, 10, 11, 12, 13, 14];

@@ -9,13 +9,13 @@ use Rattle.zb_holding.specs.Holding.{StripeHolds}
 use Rattle.zb_stripe.specs.declared.flush.Part.{Part}
 use Rattle.zb_stripe.specs.Writing.{IsWritable}
 use Rattle.zb_stripe_laws.specs.PartAtWork.{StandsUpTo, IsUnwritten, MayBegin}
-use Rattle.zb_log.specs.Sealing.{given_of}
+use Rattle.zb_log.specs.Sealing.{given_of, GoesNext}
+use Rattle.zb_log.specs.Logs.{last_of}
 use Rattle.zb_plain.specs.Standing.{maps_of}
 use Rattle.zb_blocks.specs.Blocks.{SeenBlocks, IsSound, blocks_log, end_of, contents_of}
-use Rattle.zb_blocks.specs.Flushing.{last_of, CanEnter, Rise}
+use Rattle.zb_blocks.specs.Flushing.{CanEnter, Rise}
 use Rattle.zb_blocks.proofs.Standings.{contents_held, stands_up_to}
 use Rattle.zb_blocks.proofs.Parts.{Each, highest}
-use Rattle.zb_blocks.proofs.Addresses.{IsNext}
 
 pub each_to : (P Q : Part → Type 0) (parts : List Part) → ((part : Part) → P part → Q part) → Each P parts → Each Q parts
 each_to P Q [] f a = tt
@@ -48,7 +48,7 @@ given_other at_work stripe bytes ne = ap (λ (z : Bool). cond z bytes []) (ne_eq
 
 module _ (old : SeenBlocks) (s : IsSound old) where
   abbrev pub Next : Part → Type 0
-  Next part = IsNext old.log.room old.log.at_work old.log.bytes part
+  Next part = GoesNext old.log.room old.log.next.stripe old.log.bytes part
 
   -- a part of a stripe that is committed already goes on behind its end
   pub record GoesOnThere (part : Part) : Type 0 where
@@ -57,10 +57,10 @@ module _ (old : SeenBlocks) (s : IsSound old) where
     pub holds : StripeHolds old.servers old.fragment (maps_of old.kept) None blocks_log part.stripe part.begin (take part.begin part.bytes)
     pub stands : StandsUpTo old.servers old.fragment (maps_of old.kept) None blocks_log part.stripe part.begin
 
-  at_work_goes_on : (part : Part) → Next part → part.stripe ≡ old.log.at_work → 0 < length old.log.bytes → GoesOnThere part
+  at_work_goes_on : (part : Part) → Next part → part.stripe ≡ old.log.next.stripe → 0 < length old.log.bytes → GoesOnThere part
   at_work_goes_on part next here some =
       let bytes = old.log.bytes in
-      let given = given_here old.log.at_work part.stripe bytes here in
+      let given = given_here old.log.next.stripe part.stripe bytes here in
       let front : take part.begin part.bytes ≡ bytes = next.front ∙ given in
       let begin : part.begin ≡ length bytes = next.begin ∙ ap length given in
       let stands = s.log_stands in
@@ -87,22 +87,22 @@ module _ (old : SeenBlocks) (s : IsSound old) where
   begins_or_goes_on part next =
       let bytes = old.log.bytes in
       let stands = s.log_stands in
-      elim (cases_eq part.stripe old.log.at_work) as (λ _. GoesOnThere part ⊎ BeginsThere part) [
+      elim (cases_eq part.stripe old.log.next.stripe) as (λ _. GoesOnThere part ⊎ BeginsThere part) [
         | inl here ↦ elim (cases_lt 0 (length bytes)) as (λ _. GoesOnThere part ⊎ BeginsThere part) [
           | inl some ↦ inl (at_work_goes_on part next here some)
           | inr none ↦
               let empty : length bytes ≡ 0 = omega arith in
               inr (record {
-                begin = next.begin ∙ ap length (given_here old.log.at_work part.stripe bytes here) ∙ empty;
+                begin = next.begin ∙ ap length (given_here old.log.next.stripe part.stripe bytes here) ∙ empty;
                 none = ap (end_of old) here ∙ stands.end ∙ empty;
                 free = subst (IsUnwritten old.servers (maps_of old.kept) None blocks_log) (sym here) (stands.fresh empty);
               })
         ]
         | inr other ↦
             let le = next.above in
-            let above : old.log.at_work < part.stripe = omega (arith, other, le) in
+            let above : old.log.next.stripe < part.stripe = omega (arith, other, le) in
             inr (record {
-              begin = next.begin ∙ ap length (given_other old.log.at_work part.stripe bytes other);
+              begin = next.begin ∙ ap length (given_other old.log.next.stripe part.stripe bytes other);
               none = stands.uncommitted part.stripe above;
               free = stands.above part.stripe above;
             })

@@ -7,7 +7,8 @@ use Rattle.std.proofs.lemmas.Bool.{cases_eq, eq-eqb, ne_eqb}
 use Rattle.std.proofs.lemmas.List.Elements.{recursion_from_All}
 use Rattle.zb_stripe.specs.declared.flush.Part.{Part}
 use Rattle.zb_stripe_laws.specs.PartAtWork.{AreElsewhere, StripesDiffer}
-use Rattle.zb_blocks.specs.Flushing.{last_of, end_after, Rise}
+use Rattle.zb_log.specs.Logs.{last_of}
+use Rattle.zb_blocks.specs.Flushing.{end_after, Rise}
 
 abbrev pub Each : (Part → Type 0) → List Part → Type 0
 Each P parts = AllByRecursion P parts

@@ -89,13 +89,13 @@ IsFree blocks stripe = IsUnwritten blocks.servers (maps_of blocks.kept) None blo
 -- the bytes that the log gave of the stripe at work are committed and stand, with nothing behind them, and of the
 -- stripes above nothing stands
 pub record LogStands (blocks : SeenBlocks) : Type 0 where
-  pub end : end_of blocks blocks.log.at_work ≡ length blocks.log.bytes
+  pub end : end_of blocks blocks.log.next.stripe ≡ length blocks.log.bytes
   pub stand : 0 < length blocks.log.bytes
-      → StripeHolds blocks.servers blocks.fragment (maps_of blocks.kept) None blocks_log blocks.log.at_work
+      → StripeHolds blocks.servers blocks.fragment (maps_of blocks.kept) None blocks_log blocks.log.next.stripe
       (length blocks.log.bytes) blocks.log.bytes
-  pub fresh : length blocks.log.bytes ≡ 0 → IsFree blocks blocks.log.at_work
-  pub above : (stripe : ℕ) → blocks.log.at_work < stripe → IsFree blocks stripe
-  pub uncommitted : (stripe : ℕ) → blocks.log.at_work < stripe → end_of blocks stripe ≡ 0
+  pub fresh : length blocks.log.bytes ≡ 0 → IsFree blocks blocks.log.next.stripe
+  pub above : (stripe : ℕ) → blocks.log.next.stripe < stripe → IsFree blocks stripe
+  pub uncommitted : (stripe : ℕ) → blocks.log.next.stripe < stripe → end_of blocks stripe ≡ 0
 
 -- the log is log 1, with the sizes of the servers
 pub record LogFits (blocks : SeenBlocks) : Type 0 where

@@ -1,6 +1,7 @@
 ghost use Rattle.std.specs.Prelude.{◌≡◌};
 ghost use Rattle.zb_log.specs.declared.placed.LogFault.TheVariants.{NoMemory as OutOfMemory};
 
+use crate::places::Place;
 use std::alloc::{AllocError, AllocFailed};
 use thiserror::Error;
 use zb_types::{ItemList, NoMemory, Piece, Ptr};
@@ -11,11 +12,12 @@ pub type PieceList = ItemList<Piece>;
 /// Pointers of blocks, in order.
 pub type PtrList = ItemList<Ptr>;
 
-/// Where a batch lies: its pieces, one a stripe, and the pointer of each block.
+/// Where a batch lies: its pieces, one a stripe, the pointer of each block, and the place behind it.
 #[derive(Drop)]
 pub struct Placed {
     pub pieces: PieceList,
     pub ptrs: PtrList,
+    pub next: Place,
 }
 
 /// Why a log places no batch.

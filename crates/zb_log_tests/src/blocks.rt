@@ -45,9 +45,22 @@ fn blocks_follow_each_other(rt: HostRuntime) -> Result<(), Fail> {
     let first = [block(rt.alloc(), 1, 64)?, block(rt.alloc(), 2, 5)?];
     let put = blocks.put(rt.alloc(), &first)?;
     assert_eq!(rt; put.slice(), [ptr(0, 0, 64), ptr(0, 64, 5)].as_slice());
-    let second = [block(rt.alloc(), 3, 1)?];
+    let second = [
+        block(rt.alloc(), 3, 1)?,
+        block(rt.alloc(), 4, 60)?,
+        block(rt.alloc(), 5, 2)?,
+        block(rt.alloc(), 6, 64)?,
+        block(rt.alloc(), 7, 33)?,
+    ];
     let put = blocks.put(rt.alloc(), &second)?;
-    assert_eq!(rt; put.slice(), [ptr(0, 69, 1)].as_slice());
+    let ptrs = [
+        ptr(0, 69, 1),
+        ptr(0, 70, 60),
+        ptr(0, 130, 2),
+        ptr(0, 132, 64),
+        ptr(0, 196, 33),
+    ];
+    assert_eq!(rt; put.slice(), ptrs.as_slice());
     blocks_stay();
     Ok(())
 }

@@ -6,12 +6,13 @@ use Rattle.std.proofs.lemmas.List.Elements.{recursion_from_All, All-from_recursi
 use Rattle.zb_types.specs.declared.ids.LogId.{LogId}
 use Rattle.zb_types.specs.declared.ids.Piece.{Piece}
 use Rattle.zb_types.specs.declared.ids.Ptr.{Ptr}
+use Rattle.zb_stripe.specs.Writing.{StripesRise}
 use Rattle.zb_stripe.specs.declared.flush.Flush.{Flush}
 use Rattle.zb_log.specs.declared.placed.Placed.{Placed}
 use Rattle.zb_log.specs.Placing.{AreBlocks}
 use Rattle.zb_log.specs.Sealing.{GoesNext, StandEach}
 use Rattle.zb_log.specs.Logs.{SeenLog, IsPtrIn}
-use Rattle.zb_blocks.specs.Flushing.{IsFlushed, Rise}
+use Rattle.zb_blocks.specs.Flushing.{IsFlushed}
 use Rattle.zb_blocks.proofs.Parts.{Each}
 
 -- an address of log 1 with the length of its block
@@ -32,7 +33,7 @@ each_of log pieces most (ptr ∷ ptrs) (block ∷ blocks) a some =
 -- what went next into a log
 pub record IsGoing (seen : SeenLog) (blocks : List (List ℕ)) (ptrs : List Ptr) (flush : Flush) : Type 0 where
   pub each : Each (GoesNext seen.room seen.next.stripe seen.bytes) flush.parts
-  pub rise : Rise flush.parts
+  pub rise : StripesRise flush.parts
   pub stand : StandEach flush.parts ptrs blocks
   pub of : AllZip (IsOf seen.log) ptrs blocks
 

@@ -1,9 +1,9 @@
 -- Blocks that memory ran out for.
-use Rattle.std.proofs.Common.{◌≡◌, ℕ, ◌+◌, ◌<◌, List, [], ◌∷◌, ◌++◌, length, take, Option, Some, None, refl, sym, ap, subst, ◌∙◌, inl, inr, arith}
+use Rattle.std.proofs.Common.{◌≡◌, ◌-◌, ◌*◌, ℕ, ◌+◌, ◌<◌, List, [], ◌∷◌, ◌++◌, length, take, Option, Some, None, refl, sym, ap, subst, ◌∙◌, inl, inr, arith}
 use Rattle.std.specs.Prelude.{slice_index}
 use Rattle.std.proofs.lemmas.Bool.{cases_lt}
 use Rattle.zb_types.specs.declared.ids.Ptr.{Ptr}
-use Rattle.zb_holding.specs.Holding.{StripeHolds}
+use Rattle.zb_holding.specs.Holding.{StripeHolds, view_of}
 use Rattle.zb_stripe.specs.declared.flush.Part.{Part}
 use Rattle.zb_stripe.specs.declared.flush.Flush.{Flush}
 use Rattle.zb_stripe_laws.specs.PartAtWork.{AreElsewhere}
@@ -46,7 +46,7 @@ module _ (old : SeenBlocks) (s : IsSound old) (blocks : List (List ℕ)) (placed
       let h = each_holds old s.stripes_hold stripe some in
       record {
         bytes = h.0;
-        holds = subst (λ (z : ℕ). StripeHolds old.servers old.fragment (maps_of kept) None blocks_log stripe z h.0) (sym (same stripe))
+        holds = subst (λ (z : ℕ). StripeHolds (view_of old.servers old.fragment (maps_of kept) None) blocks_log stripe z h.0) (sym (same stripe))
             (stays_held old.servers old.fragment (maps_of old.kept) (maps_of kept) flush blocks_log keeps begun stripe (end_of old stripe) h.0 away h.1);
         first = ap (λ (z : ℕ). take z h.0) (same stripe) ∙ sym (contents_held old stripe h.0 h.1);
       }
@@ -59,7 +59,7 @@ module _ (old : SeenBlocks) (s : IsSound old) (blocks : List (List ℕ)) (placed
             let end : end_of left part.stripe ≡ part.begin = same part.stripe ∙ sym on.begin in
             record {
               bytes = part.bytes;
-              holds = subst (λ (z : ℕ). StripeHolds old.servers old.fragment (maps_of kept) None blocks_log part.stripe z part.bytes) (sym end)
+              holds = subst (λ (z : ℕ). StripeHolds (view_of old.servers old.fragment (maps_of kept) None) blocks_log part.stripe z part.bytes) (sym end)
                   (goes_on_held old.servers old.fragment (maps_of old.kept) (maps_of kept) flush blocks_log keeps begun first after part is (parts_differ old s blocks placed flush went) (is_writable old s part next) on.holds on.stands);
               first = ap (λ (z : ℕ). take z part.bytes) end ∙ on.front;
             }

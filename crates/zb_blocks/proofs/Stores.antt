@@ -1,12 +1,12 @@
 -- Blocks that were put.
-use Rattle.std.proofs.Common.{◌≡◌, ℕ, ◌+◌, ◌<◌, ◌≤◌, List, [], ◌∷◌, ◌++◌, length, take, drop, Option, Some, None, refl, sym, ap, subst, ◌∙◌, inl, inr, arith}
+use Rattle.std.proofs.Common.{◌≡◌, ◌-◌, ◌*◌, ℕ, ◌+◌, ◌<◌, ◌≤◌, List, [], ◌∷◌, ◌++◌, length, take, drop, Option, Some, None, refl, sym, ap, subst, ◌∙◌, inl, inr, arith}
 use Rattle.std.specs.Prelude.{All, Any, slice_index}
 use Rattle.std.specs.List.{AllZip}
 use Rattle.std.proofs.lemmas.List.{take_all, length-take, length-drop}
 use Rattle.std.proofs.lemmas.List.Elements.{All-from_recursion}
 use Rattle.zb_types.specs.declared.ids.LogId.{LogId}
 use Rattle.zb_types.specs.declared.ids.Ptr.{Ptr}
-use Rattle.zb_holding.specs.Holding.{Maps, StripeHolds}
+use Rattle.zb_holding.specs.Holding.{Maps, StripeHolds, view_of}
 use Rattle.zb_holding.specs.Carrying.{carried_all}
 use Rattle.zb_stripe.specs.declared.flush.Part.{Part}
 use Rattle.zb_stripe.specs.declared.flush.Flush.{Flush}
@@ -34,18 +34,18 @@ module _ (old : SeenBlocks) (s : IsSound old) (blocks : List (List ℕ)) (placed
   Going = going old.log blocks placed flush went
 
   -- what a commit asks of the parts
-  pub parts_fit : All (IsWritable old.servers old.fragment) flush.parts
-  parts_fit = All-from_recursion (IsWritable old.servers old.fragment) flush.parts (each_to (Next old s) (IsWritable old.servers old.fragment) flush.parts (is_writable old s) Going.each)
+  pub parts_fit : All (IsWritable ((old.servers - 1) * old.fragment)) flush.parts
+  parts_fit = All-from_recursion (IsWritable ((old.servers - 1) * old.fragment)) flush.parts (each_to (Next old s) (IsWritable ((old.servers - 1) * old.fragment)) flush.parts (is_writable old s) Going.each)
 
   pub parts_differ : StripesDiffer flush.parts
   parts_differ = differ flush.parts Going.rise
 
-  pub parts_begin : All (MayBegin old.servers old.fragment (maps_of old.kept) None flush.log) flush.parts
+  pub parts_begin : All (MayBegin (view_of old.servers old.fragment (maps_of old.kept) None) flush.log) flush.parts
   parts_begin =
       let log_is = went.log_is ∙ s.log_fits.log in
-      subst (λ (z : LogId). All (MayBegin old.servers old.fragment (maps_of old.kept) None z) flush.parts) (sym log_is)
-      (All-from_recursion (MayBegin old.servers old.fragment (maps_of old.kept) None blocks_log) flush.parts
-      (each_to (Next old s) (MayBegin old.servers old.fragment (maps_of old.kept) None blocks_log) flush.parts (may_begin old s) Going.each))
+      subst (λ (z : LogId). All (MayBegin (view_of old.servers old.fragment (maps_of old.kept) None) z) flush.parts) (sym log_is)
+      (All-from_recursion (MayBegin (view_of old.servers old.fragment (maps_of old.kept) None) blocks_log) flush.parts
+      (each_to (Next old s) (MayBegin (view_of old.servers old.fragment (maps_of old.kept) None) blocks_log) flush.parts (may_begin old s) Going.each))
 
   pub parts_last : All (λ part. part.stripe ≤ last_stripe) flush.parts
   parts_last = All-from_recursion (λ (part : Part). part.stripe ≤ last_stripe) flush.parts (each_to (Next old s) (λ part. part.stripe ≤ last_stripe) flush.parts (λ part next. next.lasting) Going.each)
@@ -63,7 +63,7 @@ module _ (old : SeenBlocks) (s : IsSound old) (blocks : List (List ℕ)) (placed
     put = record old { log = gone_on old.log placed.next flush.parts; kept = kept; ends = ends }
 
     held_elsewhere : (stripe end : ℕ) (bytes : List ℕ) → AreElsewhere stripe flush.parts
-        → StripeHolds old.servers old.fragment (maps_of old.kept) None blocks_log stripe end bytes → StripeHolds old.servers old.fragment (maps_of kept) None blocks_log stripe end bytes
+        → StripeHolds (view_of old.servers old.fragment (maps_of old.kept) None) blocks_log stripe end bytes → StripeHolds (view_of old.servers old.fragment (maps_of kept) None) blocks_log stripe end bytes
     held_elsewhere = stays_held old.servers old.fragment (maps_of old.kept) (maps_of kept) flush blocks_log keeps begun
 
     same_end : (stripe : ℕ) → AreElsewhere stripe flush.parts → end_of put stripe ≡ end_of old stripe
@@ -77,17 +77,17 @@ module _ (old : SeenBlocks) (s : IsSound old) (blocks : List (List ℕ)) (placed
         ∙ end_among first after part (slice_index old.ends part.stripe) others.1
 
     part_held : (first after : List Part) (part : Part) → flush.parts ≡ first ++ part ∷ after
-        → StripeHolds old.servers old.fragment (maps_of kept) None blocks_log part.stripe (length part.bytes) part.bytes
+        → StripeHolds (view_of old.servers old.fragment (maps_of kept) None) blocks_log part.stripe (length part.bytes) part.bytes
     part_held first after part is =
         let next = at_part (Next old s) first after part (subst (Each (Next old s)) is Going.each) in
-        subst (λ (ms : Maps). StripeHolds old.servers old.fragment ms None blocks_log part.stripe (length part.bytes) part.bytes) (sym carried)
+        subst (λ (ms : Maps). StripeHolds (view_of old.servers old.fragment ms None) blocks_log part.stripe (length part.bytes) part.bytes) (sym carried)
         (keeps.whole first after part is parts_differ (is_writable old s part next) (may_begin old s part next))
 
     part_contents : (first after : List Part) (part : Part) → flush.parts ≡ first ++ part ∷ after → contents_of put part.stripe ≡ part.bytes
     part_contents first after part is =
         let end = part_end first after part is in
         contents_held put part.stripe part.bytes
-        (subst (λ (z : ℕ). StripeHolds old.servers old.fragment (maps_of kept) None blocks_log part.stripe z part.bytes) (sym end) (part_held first after part is))
+        (subst (λ (z : ℕ). StripeHolds (view_of old.servers old.fragment (maps_of kept) None) blocks_log part.stripe z part.bytes) (sym end) (part_held first after part is))
         ∙ ap (λ (z : ℕ). take z part.bytes) end ∙ take_all (length part.bytes) part.bytes (omega arith)
 
     put_each_holds : EachHolds put
@@ -96,11 +96,11 @@ module _ (old : SeenBlocks) (s : IsSound old) (blocks : List (List ℕ)) (placed
           | inl away ↦
               let end = same_end stripe away in
               let h = each_holds old s.stripes_hold stripe (omega (arith, end, some)) in
-              (h.0, subst (λ (z : ℕ). StripeHolds old.servers old.fragment (maps_of kept) None blocks_log stripe z h.0) (sym end) (held_elsewhere stripe (end_of old stripe) h.0 away h.1))
+              (h.0, subst (λ (z : ℕ). StripeHolds (view_of old.servers old.fragment (maps_of kept) None) blocks_log stripe z h.0) (sym end) (held_elsewhere stripe (end_of old stripe) h.0 away h.1))
           | inr a ↦ (
             a.part.bytes,
             subst (λ (z : ℕ). Holds put z a.part.bytes) a.at
-                (subst (λ (z : ℕ). StripeHolds old.servers old.fragment (maps_of kept) None blocks_log a.part.stripe z a.part.bytes) (sym (part_end a.before a.after a.part a.is)) (part_held a.before a.after a.part a.is)),
+                (subst (λ (z : ℕ). StripeHolds (view_of old.servers old.fragment (maps_of kept) None) blocks_log a.part.stripe z a.part.bytes) (sym (part_end a.before a.after a.part a.is)) (part_held a.before a.after a.part a.is)),
           )
         ]
 
@@ -116,7 +116,7 @@ module _ (old : SeenBlocks) (s : IsSound old) (blocks : List (List ℕ)) (placed
         let below = stored.committed in
         let end = same_end ptr.stripe away in
         let h = each_holds old s.stripes_hold ptr.stripe (omega arith) in
-        let there = subst (λ (z : ℕ). StripeHolds old.servers old.fragment (maps_of kept) None blocks_log ptr.stripe z h.0) (sym end) (held_elsewhere ptr.stripe (end_of old ptr.stripe) h.0 away h.1) in
+        let there = subst (λ (z : ℕ). StripeHolds (view_of old.servers old.fragment (maps_of kept) None) blocks_log ptr.stripe z h.0) (sym end) (held_elsewhere ptr.stripe (end_of old ptr.stripe) h.0 away h.1) in
         record {
           stored = omega arith;
           same = ap (λ (z : List ℕ). take ptr.len (drop ptr.offset z))
@@ -130,7 +130,7 @@ module _ (old : SeenBlocks) (s : IsSound old) (blocks : List (List ℕ)) (placed
         let part = a.part in
         let there = ap (end_of old) a.at in
         let next = at_part (Next old s) a.before a.after part (subst (Each (Next old s)) a.is Going.each) in
-        let new = next.new in
+        let new = next.writable.new in
         let end : end_of put ptr.stripe ≡ length part.bytes = sym (ap (end_of put) a.at) ∙ part_end a.before a.after part a.is in
         elim (begins_or_goes_on old s part next) as (λ _. Stays ptr) [
           | inl on ↦
@@ -203,7 +203,7 @@ module _ (old : SeenBlocks) (s : IsSound old) (blocks : List (List ℕ)) (placed
         let own = at_part (Next old s) split.0 [] last (subst (Each (Next old s)) split.1 Going.each) in
         let low = highest flush.parts last Going.rise is in
         let from = own.above in
-        let new = own.new in
+        let new = own.writable.new in
         let stands = s.log_stands in
         let away = λ (stripe : ℕ) (lt : last.stripe < stripe). elsewhere_above stripe last.stripe flush.parts low lt in
         record {

@@ -1,16 +1,13 @@
 -- Blocks on their way from a log to the servers.
-use Rattle.std.specs.Prelude.{◌≡◌, ℕ, ◌^◌, ◌<◌, ◌==◌, if◌then◌else◌, List, [], ◌∷◌, length, map, Option, Some, None, All, AllPairs}
+use Rattle.std.specs.Prelude.{◌≡◌, ℕ, ◌^◌, ◌<◌, ◌==◌, if◌then◌else◌, List, [], ◌∷◌, length, map, Option, Some, None, All}
 use Rattle.std.specs.List.{AllZip}
 use Rattle.zb_types.specs.declared.ids.Ptr.{Ptr}
 use Rattle.zb_stripe.specs.declared.flush.Part.{Part}
 use Rattle.zb_stripe.specs.declared.flush.Flush.{Flush}
+use Rattle.zb_stripe.specs.Writing.{StripesRise}
 use Rattle.zb_log.specs.declared.placed.Placed.{Placed}
 use Rattle.zb_log.specs.Sealing.{GoesNext, StandEach}
 use Rattle.zb_log.specs.Logs.{SeenLog, IsPlaced, IsSealed, IsPtrIn, last_of, end_with, renewed}
-
--- each part is of a later stripe than the one before
-abbrev pub Rise : List Part → Type 0
-Rise parts = AllPairs (λ one other. one.stripe < other.stripe) parts
 
 -- blocks have their places next in a log, with their addresses and the parts of their stripes
 pub record IsFlushed (log : SeenLog) (blocks : List (List ℕ)) (placed : Placed) (flush : Flush) : Type 0 where
@@ -20,7 +17,7 @@ pub record IsFlushed (log : SeenLog) (blocks : List (List ℕ)) (placed : Placed
   pub log_is : flush.log ≡ log.log
   pub stand : StandEach flush.parts placed.ptrs blocks
   pub each : All (GoesNext log.room log.next.stripe log.bytes) flush.parts
-  pub rise : Rise flush.parts
+  pub rise : StripesRise flush.parts
   pub ends : end_with log.next (last_of flush.parts) ≡ placed.next
 
 -- the log goes on behind the stripe of a part, if there is one

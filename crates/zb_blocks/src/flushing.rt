@@ -1,12 +1,12 @@
-ghost use Rattle.std.specs.Prelude.{◌≡◌, ℕ, ◌^◌, ◌<◌, ◌≤◌, None, All, IfOk, OnOk, OnErr, length, map, slice_index};
+ghost use Rattle.std.specs.Prelude.{◌≡◌, ℕ, ◌-◌, ◌*◌, ◌^◌, ◌<◌, ◌≤◌, None, All, IfOk, OnOk, OnErr, length, map, slice_index};
 ghost use Rattle.zb_holding.specs.Carrying.{carried_all};
-ghost use Rattle.zb_stripe.specs.Writing.{plan_requests, IsWritable};
+ghost use Rattle.zb_stripe.specs.Writing.{plan_requests, IsWritable, StripesRise};
 ghost use Rattle.zb_stripe_laws.specs.PartAtWork.{MayBegin, StripesDiffer};
 ghost use Rattle.zb_log.specs.Placing.{last_stripe, AreBlocks};
 ghost use Rattle.zb_log.specs.Logs.{last_of};
-ghost use Rattle.zb_plain.specs.Standing.{maps_of};
+ghost use Rattle.zb_plain.specs.Standing.{maps_of, seen_at};
 ghost use Rattle.zb_plain.specs.Delivering.{IsBegun};
-ghost use Rattle.zb_blocks.specs.Flushing.{IsFlushed, behind_part, end_after, CanEnter, Rise};
+ghost use Rattle.zb_blocks.specs.Flushing.{IsFlushed, behind_part, end_after, CanEnter};
 
 use std::alloc::Global;
 use zb_log::{LogBuf, Placed};
@@ -83,10 +83,10 @@ pub(crate) fn commit(
     flush: &Flush,
 ) -> Mem<()>
     requires servers { length servers.old ≡ geo.now.servers }
-    requires fits { All (IsWritable geo.now.servers geo.now.fragment) flush.now.parts }
+    requires fits { All (IsWritable ((geo.now.servers - 1) * geo.now.fragment)) flush.now.parts }
     requires differ { StripesDiffer flush.now.parts }
-    requires rise { Rise flush.now.parts }
-    requires begin { All (MayBegin geo.now.servers geo.now.fragment (maps_of servers.old) None flush.now.log)
+    requires rise { StripesRise flush.now.parts }
+    requires begin { All (MayBegin (seen_at geo.now servers.old) flush.now.log)
         flush.now.parts }
     ensures ok { OnOk result (maps_of servers.new ≡ carried_all (maps_of servers.old)
         (plan_requests geo.now.servers geo.now.fragment None Class.Client flush.now)) }

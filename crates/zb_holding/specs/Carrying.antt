@@ -8,7 +8,7 @@ use Rattle.zb_types.specs.declared.requests.Response.{Response}
 use Rattle.zb_types.specs.declared.requests.Response.TheVariants as told
 use Rattle.zb_types.specs.declared.requests.StoreFault.TheVariants as fault
 use Rattle.zb_holding.specs.Fragments.{Fragment, share_fragment, parity_fragment}
-use Rattle.zb_holding.specs.Holding.{Maps}
+use Rattle.zb_holding.specs.Holding.{Maps, View, with_maps}
 
 -- the bytes of a share after an append at a place, which is carried out only at the end
 abbrev pub appended : List ℕ → ℕ → List ℕ → List ℕ
@@ -45,6 +45,14 @@ carried maps asked server id =
 abbrev pub carried_all : Maps → List (ServerId × Request) → Maps
 carried_all maps [] = maps
 carried_all maps (asked ∷ rest) = carried_all (carried maps asked) rest
+
+-- the view after one server has carried out a request
+abbrev pub after_request : View → ServerId × Request → View
+after_request v asked = with_maps v (carried v.maps asked)
+
+-- the view after some requests, one behind the other
+abbrev pub after_requests : View → List (ServerId × Request) → View
+after_requests v requests = with_maps v (carried_all v.maps requests)
 
 -- the answer to a retrieve: a range of a share, or a parity's lengths with a range of its bytes, zeros past their end
 abbrev pub found : Option Fragment → ℕ → ℕ → Response

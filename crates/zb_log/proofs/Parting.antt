@@ -9,6 +9,7 @@ use Rattle.zb_types.specs.declared.ids.Piece.{Piece}
 use Rattle.zb_types.specs.declared.ids.Ptr.{Ptr}
 use Rattle.zb_stripe.specs.declared.flush.Part.{Part}
 use Rattle.zb_stripe.specs.declared.flush.Flush.{Flush}
+use Rattle.zb_stripe.specs.Writing.{StripesRise}
 use Rattle.zb_log.specs.declared.places.Place.{Place}
 use Rattle.zb_log.specs.declared.placed.Placed.{Placed}
 use Rattle.zb_log.specs.Places.{place, piece_at, end_of, BeginsNext, InOrder}
@@ -31,8 +32,7 @@ part_next seen piece new whole begins within low some has =
     let at : length before ≡ piece.offset = given_long seen.next.stripe seen.bytes seen.next piece refl whole begins in
     let long = part_long before piece new at has in
     record {
-      new = omega arith;
-      within = omega arith;
+      writable = record { new = omega arith; room = omega arith };
       begin = refl;
       front = take_at before (take piece.len new) (length before) refl;
       above = begins.stripe;
@@ -55,11 +55,7 @@ parts_above : (w : ℕ) (given : List ℕ) (low : ℕ) (pieces : List Piece) (ne
 parts_above w given low [] new a = tt
 parts_above w given low (piece ∷ pieces) new a = (a.0, parts_above w given low pieces (drop piece.len new) a.1)
 
--- each part is of a later stripe than the one before
-abbrev pub PartsRise : List Part → Type 0
-PartsRise parts = AllPairs (λ one other. one.stripe < other.stripe) parts
-
-parts_rise : (w : ℕ) (given : List ℕ) (stripe : ℕ) (pieces : List Piece) (new : List ℕ) → Rises pieces stripe → PartsRise (parts_of w given pieces new)
+parts_rise : (w : ℕ) (given : List ℕ) (stripe : ℕ) (pieces : List Piece) (new : List ℕ) → Rises pieces stripe → StripesRise (parts_of w given pieces new)
 parts_rise w given stripe [] new r = λ i j d lt below. absurd (omega arith)
 parts_rise w given stripe (piece ∷ pieces) new r =
     let others = parts_of w given pieces (drop piece.len new) in
@@ -125,7 +121,7 @@ module _ (seen : SeenLog) (s : IsSound seen) (meta : List ℕ) (blocks : List (L
   pub stand : StandEach made laid.ptrs blocks
   stand = given_stand seen.next.stripe seen.bytes seen.next laid new blocks given
 
-  pub rise : PartsRise made
+  pub rise : StripesRise made
   rise = parts_rise seen.next.stripe seen.bytes (laid.next.stripe + 1) (pieces_of laid) new (pieces_rise seen.next laid given.lies)
 
   pub reads : HaveBytes seen.next.stripe seen.bytes (pieces_of laid) new → read_at (pieces_of laid) made ≡ new
@@ -162,7 +158,7 @@ pub record CanSeal (seen : SeenLog) (meta : List ℕ) (blocks : List (List ℕ))
   pub have : HaveBytes seen.next.stripe seen.bytes pieces (meta ++ concat blocks)
   pub each : AllByRecursion (GoesNext seen.room seen.next.stripe seen.bytes) (parts_of seen.next.stripe seen.bytes pieces (meta ++ concat blocks))
   pub stand : StandEach (parts_of seen.next.stripe seen.bytes pieces (meta ++ concat blocks)) ptrs blocks
-  pub rise : PartsRise (parts_of seen.next.stripe seen.bytes pieces (meta ++ concat blocks))
+  pub rise : StripesRise (parts_of seen.next.stripe seen.bytes pieces (meta ++ concat blocks))
   pub reads : read_at pieces (parts_of seen.next.stripe seen.bytes pieces (meta ++ concat blocks)) ≡ meta ++ concat blocks
   pub ends : end_with seen.next (last_of (parts_of seen.next.stripe seen.bytes pieces (meta ++ concat blocks))) ≡ next
 

@@ -1,9 +1,10 @@
 -- The bytes of a placed batch, stripe by stripe.
-use Rattle.std.specs.Prelude.{◌≡◌, ℕ, ◌<◌, ◌≤◌, ◌==◌, List, [], ◌∷◌, ◌++◌, length, take, drop, if◌then◌else◌, Any}
+use Rattle.std.specs.Prelude.{◌≡◌, ℕ, ◌≤◌, ◌==◌, List, [], ◌∷◌, ◌++◌, length, take, drop, if◌then◌else◌, Any}
 use Rattle.std.specs.List.{AllZip}
 use Rattle.zb_types.specs.declared.ids.Piece.{Piece}
 use Rattle.zb_types.specs.declared.ids.Ptr.{Ptr}
 use Rattle.zb_stripe.specs.declared.flush.Part.{Part}
+use Rattle.zb_stripe.specs.Writing.{IsWritable}
 use Rattle.zb_log.specs.Placing.{last_stripe}
 
 -- all bytes of a piece's stripe: those before the piece, and the new ones
@@ -45,8 +46,7 @@ read_at (piece ∷ pieces) (part ∷ parts) = take piece.len (drop piece.offset 
 
 -- a part of a log's stripe at work or of a later one: new bytes behind those that the log has of it, within the room
 pub record GoesNext (room at_work : ℕ) (given : List ℕ) (part : Part) : Type 0 where
-  pub new : part.begin < length part.bytes
-  pub within : length part.bytes ≤ room
+  pub writable : IsWritable room part
   pub begin : part.begin ≡ length (given_of at_work given part.stripe)
   pub front : take part.begin part.bytes ≡ given_of at_work given part.stripe
   pub above : at_work ≤ part.stripe

@@ -14,11 +14,11 @@ ghost use Rattle.zb_log.specs.Placing.{
   AreBlocks,
 };
 
-use crate::placed::{PieceList, Placed, PtrList};
+use crate::placed::{Placed, PtrList};
 use crate::places::Place;
 use std::alloc::Global;
 use std::marker::Model;
-use zb_types::{LogId, Mem, Piece, Ptr};
+use zb_types::{LogId, Mem, Piece, PieceList, Ptr};
 
 /// A batch while it is placed. Contracts see what was placed so far.
 #[derive(Drop)]

@@ -1,5 +1,6 @@
-ghost use Rattle.std.specs.Prelude.{◌≡◌, ◌+◌, ◌-◌, ◌*◌, ◌<◌, ◌≤◌, ◌++◌, ◌↔◌, IfOk, IsErrOf, All, AllPairs, length, map, []};
+ghost use Rattle.std.specs.Prelude.{◌≡◌, ◌+◌, ◌-◌, ◌*◌, ◌<◌, ◌≤◌, ◌++◌, ◌↔◌, IfOk, IsErrOf, All, length, map, []};
 ghost use Rattle.std.specs.List.{AllZip, concat};
+ghost use Rattle.zb_stripe.specs.Writing.{StripesRise};
 ghost use Rattle.zb_log.specs.declared.placed.LogFault.TheVariants.{Worn};
 ghost use Rattle.zb_log.specs.Places.{place, range_of, BeginsNext, InOrder};
 ghost use Rattle.zb_log.specs.Placing.{last_stripe, AreBlocks, OneAStripe};
@@ -130,8 +131,7 @@ impl LogBuf {
             (λ flush. All (GoesNext self.now.room self.now.next.stripe self.now.bytes) flush.parts) }
 
         // Each part is of a later stripe than the one before.
-        ensures rise { IfOk result
-            (λ flush. AllPairs (λ one other. one.stripe < other.stripe) flush.parts) }
+        ensures rise { IfOk result (λ flush. StripesRise flush.parts) }
 
         // The log goes on where the last part ends.
         ensures end { IfOk result

@@ -4,10 +4,7 @@ ghost use Rattle.zb_log.specs.declared.placed.LogFault.TheVariants.{NoMemory as 
 use crate::places::Place;
 use std::alloc::{AllocError, AllocFailed};
 use thiserror::Error;
-use zb_types::{ItemList, NoMemory, Piece, Ptr};
-
-/// Pieces, in order.
-pub type PieceList = ItemList<Piece>;
+use zb_types::{ItemList, NoMemory, PieceList, Ptr};
 
 /// Pointers of blocks, in order.
 pub type PtrList = ItemList<Ptr>;

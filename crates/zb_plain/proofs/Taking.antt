@@ -15,7 +15,7 @@ use Rattle.zb_types.specs.declared.requests.Response.TheVariants as told
 use Rattle.zb_types.specs.declared.requests.StoreFault.TheVariants as fault
 use Rattle.zb_holding.specs.Fragments.{Fragment, share_fragment, parity_fragment}
 use Rattle.zb_holding.specs.Placing.{share_length, frag_id, server_of}
-use Rattle.zb_holding.specs.Holding.{Maps, is_away, standing, away_at}
+use Rattle.zb_holding.specs.Holding.{Maps, is_away, standing, away_at, view_of}
 use Rattle.zb_holding.specs.Carrying.{carried, carried_all}
 use Rattle.zb_stripe.specs.declared.flush.Part.{Part}
 use Rattle.zb_stripe.specs.declared.flush.Flush.{Flush}
@@ -130,7 +130,7 @@ module _ (n f : ℕ) (out : Option ServerId) (class : Class) (log : LogId) (part
       both (x ∷ xs) ys a b = (a.0, both xs ys a.1 b)
 
   -- as a part begins, each share ends where the stripe's first bytes end
-  has_begun : (start : Maps) (x : Option ServerId) → MayBegin n f start x log part → (k : ℕ) → k < n - 1 → away_at n x log part.stripe k ≡ false
+  has_begun : (start : Maps) (x : Option ServerId) → MayBegin (view_of n f start x) log part → (k : ℕ) → k < n - 1 → away_at n x log part.stripe k ≡ false
       → HasBytes (standing n start log part.stripe k) (share_length f part.begin k)
   has_begun start x (inl b) k below away = b.stands k below away
   has_begun start x (inr b) k below away =
@@ -138,7 +138,7 @@ module _ (n f : ℕ) (out : Option ServerId) (class : Class) (log : LogId) (part
       subst (λ o. HasBytes o (share_length f part.begin k)) (sym (b.unwritten k (omega (arith, below)) away)) (omega (arith, first))
 
   -- the i-th request of a part at work is carried out
-  pub part_is_done : (servers : List Entries) (x : Option ServerId) (i : ℕ) (r : ServerId × Request) → PartAtWork n f (maps_of servers) x out class log part i
+  pub part_is_done : (servers : List Entries) (x : Option ServerId) (i : ℕ) (r : ServerId × Request) → PartAtWork (view_of n f (maps_of servers) x) out class log part i
       → slice_get (part_requests n f out class log part) i ≡ Some r → is_away x r.0 ≡ false → answer_of (entries_of servers r.0) r.1 ≡ told.Done
   unfolding frag share_grows
   part_is_done servers x i r work e away =
@@ -168,7 +168,7 @@ one_of_all P before after part all =
 
 -- the i-th request of a plan is carried out, where its parts may begin
 pub plan_is_done : (n f : ℕ) (servers : List Entries) (maps : Maps) (out x : Option ServerId) (class : Class) (flush : Flush) (i : ℕ) (asked : ServerId × Request)
-    → StripesDiffer flush.parts → All (MayBegin n f maps x flush.log) flush.parts
+    → StripesDiffer flush.parts → All (MayBegin (view_of n f maps x) flush.log) flush.parts
     → slice_get (plan_requests n f out class flush) i ≡ Some asked → is_away x asked.0 ≡ false
     → maps_of servers ≡ carried_all maps (take i (plan_requests n f out class flush))
     → answer_of (entries_of servers asked.0) asked.1 ≡ told.Done
@@ -176,12 +176,12 @@ plan_is_done n f servers maps out x class flush i asked differ begin e away is =
     let g = part_requests n f out class flush.log in
     let of = of_part g flush.parts i asked e in
     let elsewhere = others_elsewhere of.before of.after of.part (subst StripesDiffer of.is differ) in
-    let begins = one_of_all (MayBegin n f maps x flush.log) of.before of.after of.part (subst (All (MayBegin n f maps x flush.log)) of.is begin) in
+    let begins = one_of_all (MayBegin (view_of n f maps x) flush.log) of.before of.after of.part (subst (All (MayBegin (view_of n f maps x) flush.log)) of.is begin) in
     let j = i - length (flat_map g of.before) in
     let work = parts_at_work n f out class flush.log maps x of.before of.after of.part i elsewhere.0 elsewhere.1 begins in
     let now : carried_all maps (take i (flat_map g (of.before ++ of.part ∷ of.after))) ≡ maps_of servers =
     ap (λ (ps : List Part). carried_all maps (take i (flat_map g ps))) (sym of.is) ∙ sym is in
-    part_is_done n f out class flush.log of.part servers x j asked (subst (λ (ms : Maps). PartAtWork n f ms x out class flush.log of.part j) now work) of.place away
+    part_is_done n f out class flush.log of.part servers x j asked (subst (λ (ms : Maps). PartAtWork (view_of n f ms x) out class flush.log of.part j) now work) of.place away
 
 -- one more request is carried out
 pub carried_next : (maps : Maps) (plan : Requests) (i : ℕ) (asked : ServerId × Request) → slice_get plan i ≡ Some asked → carried_all maps (take (suc i) plan) ≡ carried (carried_all maps (take i plan)) asked

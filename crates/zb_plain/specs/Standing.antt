@@ -1,13 +1,14 @@
 -- What plain servers keep.
-use Rattle.std.specs.Prelude.{◌≡◌, if◌then◌else◌, List, [], ◌∷◌, slice_index_or, Option, option_map}
+use Rattle.std.specs.Prelude.{◌≡◌, if◌then◌else◌, List, [], ◌∷◌, slice_index_or, Option, None, option_map}
 use Rattle.std.specs.List.Sorted.{IsStrictlySortedBy}
 use Rattle.std.specs.Map.{lookup, keys_of}
+use Rattle.zb_types.specs.declared.geometry.Geometry.{Geometry}
 use Rattle.zb_types.specs.declared.ids.ServerId.{ServerId}
 use Rattle.zb_types.specs.declared.ids.FragId.{FragId}
 use Rattle.zb_types.specs.declared.requests.Request.{Request}
 use Rattle.zb_types.specs.Order.{frag_cmp}
 use Rattle.zb_holding.specs.Fragments.{Fragment, share_fragment, parity_fragment}
-use Rattle.zb_holding.specs.Holding.{Maps}
+use Rattle.zb_holding.specs.Holding.{Maps, View, view_of}
 use Rattle.zb_holding.specs.Carrying.{same_frag, is_about, stands_after}
 use Rattle.zb_plain.specs.declared.kept.Kept.{Kept}
 use Rattle.zb_plain.specs.declared.kept.Kept.TheVariants.{Share, Parity}
@@ -36,6 +37,10 @@ entries_of servers server = slice_index_or ([] ∷ servers) server.0 []
 -- what each of some servers keeps under each name
 abbrev pub maps_of : List Entries → Maps
 maps_of servers server id = stands_in (entries_of servers server) id
+
+-- all of these servers, each of which is looked at
+abbrev pub seen_at : Geometry → List Entries → View
+seen_at geo servers = view_of geo.servers geo.fragment (maps_of servers) None
 
 -- the new entries have this under a name, and what the old ones have under each other
 abbrev pub IsPut : Entries → Entries → FragId → Option Fragment → Type 0

@@ -4,7 +4,7 @@ ghost use Rattle.zb_holding.specs.Carrying.{carried_all};
 ghost use Rattle.zb_stripe.specs.Writing.{plan_requests, IsWritable};
 ghost use Rattle.zb_stripe.specs.Reading.{start, asked};
 ghost use Rattle.zb_stripe_laws.specs.PartAtWork.{MayBegin, StripesDiffer};
-ghost use Rattle.zb_plain.specs.Standing.{maps_of};
+ghost use Rattle.zb_plain.specs.Standing.{maps_of, seen_at};
 ghost use Rattle.zb_plain.specs.Indexed.{AllFitIndex};
 ghost use Rattle.zb_plain.specs.Delivering.{IsBegun, IsTaken, IsFed, ComesTo};
 
@@ -35,10 +35,9 @@ impl PlainServers {
     /// first of them are carried out.
     pub fn write(&mut self, alloc: Global, geo: &Geometry, flush: &Flush, class: Class) -> Mem<()>
         requires servers { length self.old ≡ geo.now.servers }
-        requires fits { All (IsWritable geo.now.servers geo.now.fragment) flush.now.parts }
+        requires fits { All (IsWritable ((geo.now.servers - 1) * geo.now.fragment)) flush.now.parts }
         requires differ { StripesDiffer flush.now.parts }
-        requires begin { All (MayBegin geo.now.servers geo.now.fragment (maps_of self.old) None flush.now.log)
-            flush.now.parts }
+        requires begin { All (MayBegin (seen_at geo.now self.old) flush.now.log) flush.now.parts }
         ensures ok { OnOk result (maps_of self.new
             ≡ carried_all (maps_of self.old) (plan_requests geo.now.servers geo.now.fragment None class flush.now)) }
         ensures err { OnErr result (IsBegun (maps_of self.old) (maps_of self.new)
@@ -76,8 +75,7 @@ impl PlainServers {
         requires room { ptr.now.offset + ptr.now.len ≤ (geo.now.servers - 1) * geo.now.fragment }
         requires fit { AllFitIndex geo.now.servers (maps_of self.old) }
         ensures bytes { (end : ℕ) (bytes : List ℕ) → ptr.now.offset + ptr.now.len ≤ end
-            → StripeHolds geo.now.servers geo.now.fragment (maps_of self.old) None ptr.now.log ptr.now.stripe
-            end bytes
+            → StripeHolds (seen_at geo.now self.old) ptr.now.log ptr.now.stripe end bytes
             → IfOk result (λ got. got ≡ Got.Bytes (take ptr.now.len (drop ptr.now.offset bytes))) }
         ensures answers { IfOk result
             (ComesTo (maps_of self.old) (start geo.now.servers geo.now.fragment ptr.now None)) }

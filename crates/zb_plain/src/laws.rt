@@ -5,7 +5,7 @@ ghost use Rattle.zb_types.specs.declared.nodes.Class.{Class};
 ghost use Rattle.zb_types.specs.declared.requests.Request.{Request};
 ghost use Rattle.zb_types.specs.declared.requests.Response.{Response};
 ghost use Rattle.zb_types.specs.declared.requests.Response.TheVariants as told;
-ghost use Rattle.zb_holding.specs.Holding.{Maps, is_away};
+ghost use Rattle.zb_holding.specs.Holding.{Maps, View, is_away};
 ghost use Rattle.zb_holding.specs.Carrying.{carried, carried_all};
 ghost use Rattle.zb_stripe.specs.declared.flush.Flush.{Flush};
 ghost use Rattle.zb_stripe.specs.Writing.{plan_requests};
@@ -23,11 +23,11 @@ pub fn plan_is_carried_out()
     ensures asked { (n f : ℕ) (out : Option ServerId) (class : Class) (flush : Flush) (i : ℕ)
         (asked : ServerId × Request)
         → 0 < n → f < 2 ^ 32 → slice_get (plan_requests n f out class flush) i ≡ Some asked → MayAsk n asked }
-    ensures done { (n f : ℕ) (servers : List Entries) (maps : Maps) (out x : Option ServerId)
-        (class : Class) (flush : Flush) (i : ℕ) (asked : ServerId × Request)
-        → StripesDiffer flush.parts → All (MayBegin n f maps x flush.log) flush.parts
-        → slice_get (plan_requests n f out class flush) i ≡ Some asked → is_away x asked.0 ≡ false
-        → maps_of servers ≡ carried_all maps (take i (plan_requests n f out class flush))
+    ensures done { (v : View) (servers : List Entries) (out : Option ServerId) (class : Class) (flush : Flush) (i : ℕ)
+        (asked : ServerId × Request)
+        → StripesDiffer flush.parts → All (MayBegin v flush.log) flush.parts
+        → slice_get (plan_requests v.servers v.fragment out class flush) i ≡ Some asked → is_away v.away asked.0 ≡ false
+        → maps_of servers ≡ carried_all v.maps (take i (plan_requests v.servers v.fragment out class flush))
         → answer_of (entries_of servers asked.0) asked.1 ≡ told.Done }
     ensures next { (servers new : List Entries) (maps : Maps) (plan : List (ServerId × Request))
         (i : ℕ) (asked : ServerId × Request)

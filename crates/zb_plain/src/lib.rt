@@ -7,8 +7,6 @@ mod kept;
 mod laws;
 mod server;
 mod servers;
-#[cfg(test)]
-mod tests;
 
 pub use body::Body;
 pub use kept::Kept;

@@ -1,5 +1,5 @@
 -- What an answer makes of a write.
-use Rattle.std.specs.Prelude.{◌<◌, List, [], ◌∷◌, length}
+use Rattle.std.specs.Prelude.{List, [], ◌∷◌}
 use Rattle.zb_types.specs.declared.ids.ServerId.{ServerId}
 use Rattle.zb_types.specs.declared.requests.Request.{Request}
 use Rattle.zb_types.specs.declared.requests.Response.{Response}
@@ -8,27 +8,13 @@ use Rattle.zb_types.specs.declared.requests.StoreFault.TheVariants as fault
 use Rattle.zb_stripe.specs.declared.write.Fed.{Fed}
 use Rattle.zb_stripe.specs.declared.write.Fed.TheVariants as fed
 
--- an answer that a write may have
-abbrev pub AnswersWrite : Response → Type 0
-AnswersWrite told.Done = Unit {0}
-AnswersWrite told.Down = Unit {0}
-AnswersWrite told.Blank = Unit {0}
-AnswersWrite (told.Refused (fault.NoSlot free)) = Unit {0}
-AnswersWrite (told.Refused (fault.OldGeneration now)) = Unit {0}
-AnswersWrite (told.Refused fault.NoMemory) = Unit {0}
-AnswersWrite response = ⊥
-
--- a request stands, and this may answer it
-pub record CanFeed (left : List (ServerId × Request)) (response : Response) : Type 0 where
-  pub stands : 0 < length left
-  pub answers : AnswersWrite response
-
 -- what is carried out comes to, where these requests are left
 abbrev pub done_by : List (ServerId × Request) → Fed
 done_by [] = fed.Done
 done_by (asked ∷ rest) = fed.More
 
--- what an answer of a server comes to, where these requests are left behind its own
+-- what an answer of a server comes to, where these requests are left behind its own: one that no write has is as if the
+-- server were down
 abbrev pub became : ServerId → List (ServerId × Request) → Response → Fed
 became server rest told.Done = done_by rest
 became server rest (told.Refused (fault.NoSlot free)) = fed.NoSpace server free

@@ -1,5 +1,5 @@
 -- The requests that write the stripes of a flush.
-use Rattle.std.specs.Prelude.{ℕ, zero, suc, ◌-◌, ◌*◌, ◌<◌, ◌≤◌, ◌==◌, if◌then◌else◌, List, [], ◌∷◌, ◌++◌, length, map, drop, Option}
+use Rattle.std.specs.Prelude.{ℕ, zero, suc, ◌-◌, ◌*◌, ◌<◌, ◌≤◌, ◌==◌, if◌then◌else◌, List, [], ◌∷◌, ◌++◌, length, map, drop, Option, AllPairs}
 use Rattle.std.specs.List.{range_with_len, flat_map}
 use Rattle.zb_types.specs.declared.ids.LogId.{LogId}
 use Rattle.zb_types.specs.declared.ids.ServerId.{ServerId}
@@ -58,7 +58,11 @@ part_requests n f out class log part = share_requests n f out class log part (n 
 abbrev pub plan_requests : ℕ → ℕ → Option ServerId → Class → Flush → List (ServerId × Request)
 plan_requests n f out class flush = flat_map (part_requests n f out class flush.log) flush.parts
 
--- the part has new bytes, and fits into a stripe
-pub record IsWritable (n f : ℕ) (part : Part) : Type 0 where
+-- the part has new bytes, and fits into a stripe with room for so many
+pub record IsWritable (most : ℕ) (part : Part) : Type 0 where
   pub new : part.begin < length part.bytes
-  pub room : length part.bytes ≤ (n - 1) * f
+  pub room : length part.bytes ≤ most
+
+-- each part is of a later stripe than the one before
+abbrev pub StripesRise : List Part → Type 0
+StripesRise parts = AllPairs (λ one other. one.stripe < other.stripe) parts

@@ -46,6 +46,28 @@ pub(crate) struct Progress {
     pub(crate) phase: Phase,
 }
 
+impl Progress {
+    pub(crate) fn copy(&self, alloc: Global) -> Mem<Progress>
+        ensures { IfOk result (λ made. made ≡ self.now) }
+    {
+        let read = self.read.copy(alloc)?;
+        let phase = match &self.phase {
+            Phase::Direct => Phase::Direct,
+            Phase::Lengths => Phase::Lengths,
+            Phase::Others {
+                lengths,
+                sum,
+                index,
+            } => Phase::Others {
+                lengths: lengths.copy(alloc)?,
+                sum: sum.copy(alloc)?,
+                index: *index,
+            },
+        };
+        Ok(Progress { read, phase })
+    }
+}
+
 /// The range that is next, behind what is read: it has no bytes where all is read.
 pub(crate) fn range(source: &Source, read: &ByteList) -> Span
     requires below { length read.now ≤ source.now.ptr.len }

@@ -1,4 +1,4 @@
-ghost use Rattle.std.specs.Prelude.{◌≡◌, ℕ, List, [], ◌+◌, ◌-◌, ◌*◌, ◌<◌, ◌≤◌, IfOk, OnOk, OnErr, length, map, option_map};
+ghost use Rattle.std.specs.Prelude.{◌≡◌, ℕ, true, false, List, [], ◌+◌, ◌-◌, ◌*◌, ◌<◌, ◌≤◌, IfOk, OnOk, OnErr, length, map, option_map};
 ghost use Rattle.std.specs.List.{range_with_len};
 ghost use Rattle.zb_types.specs.declared.ids.ServerId.{ServerId};
 ghost use Rattle.zb_types.specs.declared.ids.FragId.{FragId};
@@ -116,6 +116,40 @@ fn gain(alloc: Global, ptr: &Ptr, read: &ByteList) -> Mem<Got>
     }
 }
 
+/// Whether a fault may refuse a retrieve.
+fn may_refuse(fault: &StoreFault) -> bool
+    ensures fits { (servers : ℕ) (id : FragId) (len : ℕ)
+        → result ≡ true → AnswersRetrieve servers id len (Response.Refused fault.now) }
+    ensures differs { (servers : ℕ) (id : FragId) (len : ℕ)
+        → result ≡ false → ¬ (AnswersRetrieve servers id len (Response.Refused fault.now)) }
+{
+    match fault {
+        StoreFault::NoFragment
+        | StoreFault::Short { .. }
+        | StoreFault::OldGeneration { .. }
+        | StoreFault::NoMemory => true,
+        _ => false,
+    }
+}
+
+/// Whether this may answer a retrieve of `len` bytes of a fragment, placed among so many servers.
+fn may_answer(servers: u32, id: FragId, len: u32, response: &Response) -> bool
+    requires { 0 < servers }
+    ensures fits { result ≡ true → AnswersRetrieve servers id len response.now }
+    ensures differs { result ≡ false → ¬ (AnswersRetrieve servers id len response.now) }
+{
+    let of_parity = u32::from(id.index) == servers - 1;
+    match response {
+        Response::Bytes(bytes) => !of_parity && bytes.len() == len as usize,
+        Response::Parity { lengths, bytes } => {
+            of_parity && lengths.len() == (servers - 1) as usize && bytes.len() == len as usize
+        }
+        Response::Refused(fault) => may_refuse(fault),
+        Response::Down | Response::Blank => true,
+        Response::Done | Response::Ids(_) => false,
+    }
+}
+
 impl ReadPlan {
     /// Each range of the pointer, in order: from its server; where that is left away, down or blank, from the parity
     /// for the same range and then by index from each other share that the parity covers into the range. `out` is the
@@ -133,6 +167,21 @@ impl ReadPlan {
         let request = ask(&source, &progress);
         Ok(ReadPlan {
             source,
+            lost,
+            progress,
+            request,
+        })
+    }
+
+    /// The same read once more, so that it may be fed and given up for want of memory.
+    pub fn copy(&self, alloc: Global) -> Mem<ReadPlan>
+        ensures { IfOk result (λ plan. plan ≡ self.now) }
+    {
+        let lost = Vec::from_slice(alloc, &self.lost)?;
+        let progress = self.progress.copy(alloc)?;
+        let request = ask(&self.source, &progress);
+        Ok(ReadPlan {
+            source: self.source,
             lost,
             progress,
             request,
@@ -216,6 +265,20 @@ impl ReadPlan {
         }
     }
 
+    /// Whether this may answer the request that stands. A server whose disk tells nothing may answer anything, so who
+    /// asks one looks first.
+    pub fn fits(&self, response: &Response) -> bool
+        ensures fits { result ≡ true → Answers self.now.servers (asked self.now) response.now }
+        ensures differs { result ≡ false → ¬ (Answers self.now.servers (asked self.now) response.now) }
+    {
+        match self.next() {
+            Some((_, Request::Retrieve { id, len, .. })) => {
+                may_answer(self.source.geo.servers, *id, *len, response)
+            }
+            _ => false,
+        }
+    }
+
     /// Takes the answer to the request that stands. After an answer that ends the read short of its bytes the plan is
     /// as before.
     pub fn feed(&mut self, alloc: Global, response: &Response) -> Mem<Got>
@@ -239,117 +302,5 @@ impl ReadPlan {
         // Names a field, so that what holds of the plan's fields is known here.
         let _ = &self.source;
         self.hear(alloc, response)
-    }
-}
-
-#[cfg(test)]
-mod tests {
-    use super::*;
-    use std::test::Fail;
-    use zb_types::{LenList, LogId};
-
-    /// The byte that all of share `index` has.
-    fn byte_of(index: u8) -> u8 {
-        index.wrapping_mul(3).wrapping_add(1)
-    }
-
-    /// What is answered to a retrieve, where the parity has this byte.
-    fn answer(alloc: Global, geo: &Geometry, parity: u8, index: u8, len: u32) -> Mem<Response>
-        ensures { IfOk result (λ t. (id : FragId) → id.index ≡ index
-            → AnswersRetrieve geo.now.servers id len t) }
-    {
-        if u32::from(index) == geo.servers - 1 {
-            let lengths = vec![in alloc; 256u32; (geo.servers - 1) as usize]?;
-            let bytes = vec![in alloc; parity; len as usize]?;
-            return Ok(Response::Parity {
-                lengths: LenList::of(lengths),
-                bytes: ByteList::of(bytes),
-            });
-        }
-        let bytes = vec![in alloc; byte_of(index); len as usize]?;
-        Ok(Response::Bytes(ByteList::of(bytes)))
-    }
-
-    /// Feeds one answer, which is Down from the servers `down`.
-    fn step(
-        plan: &mut ReadPlan,
-        alloc: Global,
-        geo: &Geometry,
-        parity: u8,
-        down: [u8; 2],
-    ) -> Mem<Got>
-        requires { plan.old.servers ≡ geo.now.servers }
-        ensures { plan.new.servers ≡ plan.old.servers }
-    {
-        let (server, index, len) = match plan.next() {
-            Some((server, Request::Retrieve { id, len, .. })) => (server.0, id.index, *len),
-            _ => return Ok(Got::Gone),
-        };
-        if server == down[0] || server == down[1] {
-            return plan.feed(alloc, &Response::Down);
-        }
-        let response = answer(alloc, geo, parity, index, len)?;
-        plan.feed(alloc, &response)
-    }
-
-    /// Reads a whole stripe of log 1.
-    fn read(
-        alloc: Global,
-        geo: &Geometry,
-        parity: u8,
-        out: Option<ServerId>,
-        down: [u8; 2],
-    ) -> Mem<Got> {
-        let ptr = Ptr {
-            log: LogId(1),
-            stripe: 0,
-            offset: 0,
-            len: (geo.servers - 1) * geo.fragment,
-        };
-        let mut plan = ReadPlan::new(alloc, geo, &ptr, out)?;
-        for _ in 0..64 {
-            match step(&mut plan, alloc, geo, parity, down)? {
-                Got::More => {}
-                got => return Ok(got),
-            }
-        }
-        Ok(Got::More)
-    }
-
-    /// The bytes of the stripe.
-    fn stripe(alloc: Global, geo: &Geometry) -> Mem<Vec<u8>> {
-        let mut bytes = Vec::new(alloc);
-        for index in 0..(geo.servers - 1) as u8 {
-            bytes.extend_from_slice(&[byte_of(index); 256])?;
-        }
-        Ok(bytes)
-    }
-
-    #[test]
-    fn any_one_server_may_be_down(rt: HostRuntime) -> Result<(), Fail> {
-        for (servers, parity) in [(3, 5), (4, 2), (16, 14)] {
-            let geo = Geometry::new(servers, 1, 256, 64, 8)?;
-            let all = stripe(rt.alloc(), &geo)?;
-            for server in 0..=servers as u8 {
-                match read(rt.alloc(), &geo, parity, None, [server, server])? {
-                    Got::Bytes(bytes) => assert_eq!(rt; bytes.slice(), all.as_slice()),
-                    _ => assert!(rt; false, "server {server} of {servers} is down"),
-                }
-            }
-        }
-        Ok(())
-    }
-
-    #[test]
-    fn two_servers_are_named(rt: HostRuntime) -> Result<(), Fail> {
-        let geo = Geometry::new(3, 1, 256, 64, 8)?;
-        let outs = [None, Some(ServerId(3)), Some(ServerId(2))];
-        for out in outs {
-            match read(rt.alloc(), &geo, 5, out, [2, 3])? {
-                Got::Unreachable { a, b } => assert_eq!(rt; [a.0, b.0], [2, 3]),
-                _ => assert!(rt; false, "two servers are down"),
-            }
-        }
-        Ok(())
     }
 }

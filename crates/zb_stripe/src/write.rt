@@ -1,7 +1,7 @@
-ghost use Rattle.std.specs.Prelude.{◌≡◌, ℕ, ◌-◌, ◌<◌, ◌++◌, IfOk, OnOk, length, All, option_map, slice_get};
+ghost use Rattle.std.specs.Prelude.{◌≡◌, ℕ, ◌-◌, ◌*◌, ◌<◌, ◌++◌, IfOk, OnOk, length, All, option_map, slice_get};
 ghost use Rattle.zb_holding.specs.Holding.{is_away};
 ghost use Rattle.zb_stripe.specs.Writing.{grow, share_request, parity_request, part_requests, plan_requests, IsWritable};
-ghost use Rattle.zb_stripe.specs.Feeding.{fed_by, left_after, AnswersWrite, CanFeed};
+ghost use Rattle.zb_stripe.specs.Feeding.{fed_by, left_after};
 
 use crate::flush::{Flush, Part};
 use crate::parity::{lengths, parity};
@@ -90,7 +90,7 @@ fn push_share(
     part: &Part,
     k: u8,
 ) -> Mem<()>
-    requires fits { IsWritable to.geo.servers to.geo.fragment part.now }
+    requires fits { IsWritable ((to.geo.servers - 1) * to.geo.fragment) part.now }
     requires index { k < to.geo.servers - 1 }
     ensures { OnOk result
         (requests.new.items
@@ -124,7 +124,7 @@ fn push_parity(
     to: Setting,
     part: &Part,
 ) -> Mem<()>
-    requires fits { IsWritable to.geo.servers to.geo.fragment part.now }
+    requires fits { IsWritable ((to.geo.servers - 1) * to.geo.fragment) part.now }
     ensures { OnOk result
         (requests.new.items
         ≡ requests.old.items ++ parity_request to.geo.servers to.geo.fragment to.out to.class to.log part.now) }
@@ -157,7 +157,7 @@ fn push_part(
     to: Setting,
     part: &Part,
 ) -> Mem<()>
-    requires fits { IsWritable to.geo.servers to.geo.fragment part.now }
+    requires fits { IsWritable ((to.geo.servers - 1) * to.geo.fragment) part.now }
     ensures { OnOk result
         (requests.new.items
         ≡ requests.old.items ++ part_requests to.geo.servers to.geo.fragment to.out to.class to.log part.now) }
@@ -179,7 +179,7 @@ impl WritePlan {
         out: Option<ServerId>,
         class: Class,
     ) -> Mem<WritePlan>
-        requires { All (IsWritable geo.now.servers geo.now.fragment) flush.now.parts }
+        requires { All (IsWritable ((geo.now.servers - 1) * geo.now.fragment)) flush.now.parts }
         ensures { IfOk result (λ plan. plan
             ≡ plan_requests geo.now.servers geo.now.fragment out class flush.now) }
     {
@@ -206,13 +206,17 @@ impl WritePlan {
         }
     }
 
-    /// Takes the answer to the request that stands. Only `Done` goes on to the next; after any other the plan is as before.
+    /// Takes the answer to the request that stands. Only `Done` goes on to the next; after any other the plan is as
+    /// before. An answer that no write has comes to the same as one of a server that is down. Where no request stands,
+    /// all are carried out.
     pub fn feed(&mut self, response: &Response) -> Fed
-        requires { CanFeed self.old response.now }
         ensures fed { result ≡ fed_by self.old response.now }
         ensures left { self.new ≡ left_after self.old response.now }
     {
-        let server = self.requests[self.at].0;
+        let Some((server, _)) = self.requests.as_slice().get(self.at) else {
+            return Fed::Done;
+        };
+        let server = *server;
         match response {
             Response::Done => {
                 self.at += 1;
@@ -230,66 +234,5 @@ impl WritePlan {
             Response::Refused(StoreFault::NoMemory) => Fed::NoMemory,
             _ => Fed::Down { server },
         }
-    }
-}
-
-#[cfg(test)]
-mod tests {
-    use super::*;
-    use crate::flush::PartList;
-    use std::test::Fail;
-
-    /// Writes 10 bytes behind the first 250 of a stripe with fragments of 256 bytes.
-    fn plan(alloc: Global, geo: &Geometry, out: Option<ServerId>) -> Mem<WritePlan>
-        requires servers { geo.now.servers ≡ 3 }
-        requires fragment { geo.now.fragment ≡ 256 }
-    {
-        let bytes = vec![in alloc; 7u8; 260]?;
-        let mut parts = PartList::new(alloc)?;
-        parts.push(Part {
-            stripe: 0,
-            begin: 250,
-            bytes: ByteList::of(bytes),
-        })?;
-        let flush = Flush {
-            log: LogId(1),
-            parts,
-        };
-        WritePlan::new(alloc, geo, &flush, out, Class::Client)
-    }
-
-    /// Feeds one answer, and gives the server that was asked with what the answer comes to.
-    fn step(plan: &mut WritePlan, response: &Response) -> Option<(u8, Fed)>
-        requires { AnswersWrite response.now }
-    {
-        let server = match plan.next() {
-            Some((server, _)) => server.0,
-            None => return None,
-        };
-        Some((server, plan.feed(response)))
-    }
-
-    #[test]
-    fn data_comes_before_parity(rt: HostRuntime) -> Result<(), Fail> {
-        let geo = Geometry::new(3, 1, 256, 64, 8)?;
-        let mut plan = plan(rt.alloc(), &geo, None)?;
-        for (server, fed) in [(2, Fed::More), (3, Fed::More), (1, Fed::Done)] {
-            assert_eq!(rt; step(&mut plan, &Response::Done), Some((server, fed)));
-        }
-        assert_eq!(rt; step(&mut plan, &Response::Done), None);
-        Ok(())
-    }
-
-    #[test]
-    fn a_server_is_left_away(rt: HostRuntime) -> Result<(), Fail> {
-        let geo = Geometry::new(3, 1, 256, 64, 8)?;
-        let mut plan = plan(rt.alloc(), &geo, Some(ServerId(2)))?;
-        let old = Response::Refused(StoreFault::OldGeneration { now: 5 });
-        assert_eq!(rt; step(&mut plan, &old), Some((3, Fed::Old { now: 5 })));
-        let down = Fed::Down {
-            server: ServerId(3),
-        };
-        assert_eq!(rt; step(&mut plan, &Response::Blank), Some((3, down)));
-        Ok(())
     }
 }

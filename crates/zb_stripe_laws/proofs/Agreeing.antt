@@ -6,7 +6,7 @@ use Rattle.std.proofs.lemmas.List.{get_or-take, get_or-drop, get_or_past, length
 use Rattle.zb_holding.specs.Fragments.{Fragment}
 use Rattle.zb_holding.specs.Fragments.{share_fragment, parity_fragment}
 use Rattle.zb_holding.specs.Placing.{share_length, share_of}
-use Rattle.zb_holding.specs.Holding.{share_bytes, Begins, covered, ShareHolds, ParityHolds, ViewHolds}
+use Rattle.zb_holding.specs.Holding.{share_bytes, Begins, covered, ShareHolds, ParityHolds, FragmentsHold}
 use Rattle.zb_holding.proofs.Exclusives.{xor_other}
 
 -- a byte of a share that stands is that byte of the share
@@ -45,7 +45,7 @@ module _ (n f : ℕ) (stands : ℕ → Option Fragment) (away : ℕ → Bool) (e
       sym (get_or-take (get_or lengths k 0) (share_of f one k) y 0 (omega arith)) ∙ at ∙ get_or-take (get_or lengths k 0) (share_of f other k) y 0 (omega arith)
 
   shares_agree : (one other : List ℕ) (once : (j k : ℕ) → j < n + 1 → k < n + 1 → away j ≡ true → away k ≡ true → j ≡ k)
-      → ViewHolds n f stands away end one → ViewHolds n f stands away end other
+      → FragmentsHold n f stands away end one → FragmentsHold n f stands away end other
       → (k y : ℕ) → k < n → y < share_length f end k → get_or (share_of f one k) y 0 ≡ get_or (share_of f other k) y 0
   shares_agree one other once a b k y kn yl =
       elim (cases_Bool (away k)) [
@@ -61,7 +61,7 @@ module _ (n f : ℕ) (stands : ℕ → Option Fragment) (away : ℕ → Bool) (e
       ]
 
   pub stripe_agrees : 0 < f → (one other : List ℕ) (once : (j k : ℕ) → j < n + 1 → k < n + 1 → away j ≡ true → away k ≡ true → j ≡ k)
-      → ViewHolds n f stands away end one → ViewHolds n f stands away end other → take end one ≡ take end other
+      → FragmentsHold n f stands away end one → FragmentsHold n f stands away end other → take end one ≡ take end other
   stripe_agrees pos one other once a b =
       let wa = a.whole in
       let wb = b.whole in

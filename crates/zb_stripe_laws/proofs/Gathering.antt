@@ -17,10 +17,11 @@ use Rattle.zb_types.specs.declared.requests.Response.{Response}
 use Rattle.zb_types.specs.declared.requests.Response.TheVariants as told
 use Rattle.zb_holding.specs.Exclusive.{xor_at}
 use Rattle.zb_holding.specs.Placing.{share_length, share_of, frag_id, server_of}
-use Rattle.zb_holding.specs.Holding.{Maps, covered, CoversShares, ParityHolds, StripeHolds, is_away, standing, away_at}
+use Rattle.zb_holding.specs.Holding.{Maps, share_bytes, covered, ParityHolds, StripeHolds, CoversRest, ParityRemains, StripeRemains, is_away, standing, away_at, view_of}
 use Rattle.zb_holding.specs.Carrying.{found}
 use Rattle.zb_holding.proofs.Exclusives.{xor_more, without, xor_without, length-xored, get_or-xored}
 use Rattle.zb_stripe_laws.proofs.Away.{away_once}
+use Rattle.zb_stripe_laws.proofs.Remaining.{held_remains}
 use Rattle.zb_stripe.specs.declared.read.Got.{Got}
 use Rattle.zb_stripe.specs.declared.read.Got.TheVariants as got
 use Rattle.zb_stripe.specs.declared.progress.Phase.{Phase}
@@ -30,10 +31,10 @@ use Rattle.zb_stripe.specs.Reading.{Reading, entered, advanced, own_lost, sought
 use Rattle.zb_stripe_laws.specs.ReadAtWork as work
 use Rattle.zb_stripe_laws.specs.ReadAtWork.{IsNotThere, AnswersWith, AnswersFrom, AllAnswer}
 use Rattle.zb_holding.proofs.Shares.{length-share_of}
-use Rattle.zb_stripe_laws.proofs.Ranges.{range_is, found_in_share, parity_range, length-parity_range, parity_range_at}
+use Rattle.zb_stripe_laws.proofs.Ranges.{range_is, found_or_none, parity_range, length-parity_range, parity_range_at}
 
 module _ (n f : ℕ) (MayBeDown : ServerId → Type 0) (maps : Maps) (x : Option ServerId) (ptr : Ptr) (end : ℕ) (bytes : List ℕ)
-    (two : 2 ≤ n) (some : 0 < f) (inside : ptr.offset + ptr.len ≤ end) (held : StripeHolds n f maps x ptr.log ptr.stripe end bytes) where
+    (two : 2 ≤ n) (some : 0 < f) (inside : ptr.offset + ptr.len ≤ end) (remains : StripeRemains (view_of n f maps x) ptr.log ptr.stripe end bytes) where
   abbrev pub mk : List Bool → List ℕ → Phase → Reading
   mk lost read phase = record { servers = n; fragment = f; ptr = ptr; lost = lost; read = read; phase = phase }
 
@@ -112,6 +113,15 @@ module _ (n f : ℕ) (MayBeDown : ServerId → Type 0) (maps : Maps) (x : Option
   abbrev pub Good : Reading × Got → List Bool → ℕ → Type 0
   Good p lost m = Goes p lost m ⊎ (p.1 ≡ got.Bytes whole) ⊎ Blocks p lost
 
+  -- the fragment that is asked for isn't there, on a server that is looked at
+  abbrev pub LacksIt : Option (ServerId × Request) → Type 0
+  LacksIt (Some (server, ask.Retrieve id place len)) = (is_away x server ≡ false) × (maps server id ≡ None)
+  LacksIt request = ⊥
+
+  -- a step of the read, or its end as a fragment isn't there
+  abbrev pub Led : List Bool → List ℕ → Phase → Reading × Got → Type 0
+  Led lost read phase p = Good p lost (left read phase) ⊎ ((p.1 ≡ got.Gone) × LacksIt (asked (mk lost read phase)))
+
   -- a range that lies below the end
   pub record InStripe (read : List ℕ) : Type 0 where
     index : K read < n - 1
@@ -120,8 +130,8 @@ module _ (n f : ℕ) (MayBeDown : ServerId → Type 0) (maps : Maps) (x : Option
 
   in_stripe : (read : List ℕ) → Pos read < Last → InStripe read
   in_stripe read below =
-      let w = held.whole in
-      let r = held.room in
+      let w = remains.whole in
+      let r = remains.room in
       let m = mod_below (Pos read) f some in
       record {
         index = div_below (Pos read) f (n - 1) some (omega arith);
@@ -195,7 +205,7 @@ module _ (n f : ℕ) (MayBeDown : ServerId → Type 0) (maps : Maps) (x : Option
   -- the bytes of a range are there
   advances : (b : Reading) (lost : List Bool) (read : List ℕ) (phase : Phase) (new : List ℕ) (m : ℕ) → SoFar lost read → Pos read < Last → new ≡ take (Len read) (drop (Pos read) bytes) → (Last - Pos read) * (n + 2) ≤ m → Good (gained b (advanced (mk lost read phase) new)) lost m
   advances b lost read phase new m so below e bound =
-      let w = held.whole in
+      let w = remains.whole in
       let within = so.within in
       let rest = mod_below (Pos read) f some in
       let len : length new ≡ Len read = ap length e ∙ length-take-le (Len read) (drop (Pos read) bytes) (omega (arith, length-drop (Pos read) bytes)) in
@@ -213,15 +223,15 @@ module _ (n f : ℕ) (MayBeDown : ServerId → Type 0) (maps : Maps) (x : Option
       (omega (arith, mul-le (Last - Pos (read ++ new) + 1) (n + 2) (Last - Pos read) (n + 2) (omega arith) (omega arith)))
 
   abbrev pub CoversIt : List ℕ → List ℕ → Type 0
-  CoversIt lengths parity = CoversShares (n - 1) f View (away_at n x ptr.log ptr.stripe) end bytes lengths parity
+  CoversIt lengths parity = CoversRest (n - 1) f View (away_at n x ptr.log ptr.stripe) end bytes lengths parity
 
-  parity_there : (p : Option Fragment) → ParityHolds (n - 1) f View (away_at n x ptr.log ptr.stripe) end bytes p → (lengths parity : List ℕ) × (p ≡ Some (parity_fragment lengths parity)) × CoversIt lengths parity
-  parity_there None c = absurd c
+  parity_there : (p : Option Fragment) → ParityRemains (n - 1) f View (away_at n x ptr.log ptr.stripe) end bytes p → (p ≡ None) ⊎ ((lengths parity : List ℕ) × (p ≡ Some (parity_fragment lengths parity)))
+  parity_there None c = inl refl
   parity_there (Some (share_fragment s)) c = absurd c
-  parity_there (Some (parity_fragment lengths parity)) c = (lengths, parity, refl, c)
+  parity_there (Some (parity_fragment lengths parity)) c = inr (lengths, parity, refl)
 
   pub covers_it : (lengths parity : List ℕ) → View (n - 1) ≡ Some (parity_fragment lengths parity) → away_at n x ptr.log ptr.stripe (n - 1) ≡ false → CoversIt lengths parity
-  covers_it lengths parity e seen = subst (ParityHolds (n - 1) f View (away_at n x ptr.log ptr.stripe) end bytes) e (held.parity seen)
+  covers_it lengths parity e seen = subst (ParityRemains (n - 1) f View (away_at n x ptr.log ptr.stripe) end bytes) e (remains.parity seen)
 
   -- with all other shares put in, the parity's range is the share's
   summed_all : (read lengths parity sum : List ℕ) → Pos read < Last → CoversIt lengths parity → Summed read lengths parity sum (n - 1) → sum ≡ take (Len read) (drop (Pos read) bytes)
@@ -232,7 +242,7 @@ module _ (n f : ℕ) (MayBeDown : ServerId → Type 0) (maps : Maps) (x : Option
       let long = s.long in
       let own = share_of f bytes (K read) in
       let len = length-share_of f bytes (K read) in
-      let w = held.whole in
+      let w = remains.whole in
       let e = c.enough (K read) index in
       let range : sum ≡ take (Len read) (drop (Place read) own) =
       ext_get_or 0 sum (take (Len read) (drop (Place read) own)) (omega (arith, length-take (Len read) (drop (Place read) own), length-drop (Place read) own)) (λ y l.
@@ -345,29 +355,35 @@ module _ (n f : ℕ) (MayBeDown : ServerId → Type 0) (maps : Maps) (x : Option
         ];
       }))
 
-  step_direct : (lost : List Bool) (read : List ℕ) (t : Response) → SoFar lost read → PhaseFits lost read Direct → Answers (asked (mk lost read Direct)) t → Good (fed (mk lost read Direct) t) lost (left read Direct)
+  step_direct : (lost : List Bool) (read : List ℕ) (t : Response) → SoFar lost read → PhaseFits lost read Direct → Answers (asked (mk lost read Direct)) t → Led lost read Direct (fed (mk lost read Direct) t)
   step_direct lost read t so fits a =
-      let q = some_asked (ltb (Pos read) Last) (At (K read), ask.Retrieve (frag_id ptr.log ptr.stripe (K read)) (Place read) (Len read)) t a in
+      let request : ServerId × Request = (At (K read), ask.Retrieve (frag_id ptr.log ptr.stripe (K read)) (Place read) (Len read)) in
+      let q = some_asked (ltb (Pos read) Last) request t a in
       let below = ltb-true (Pos read) Last q.0 in
       let i = in_stripe read below in
-      elim q.1 as (λ _. Good (fed (mk lost read Direct) t) lost (left read Direct)) [
-        | inl d ↦ subst (λ p. Good p lost (left read Direct)) (sym (down_direct lost read t d.1)) (loses lost read so below d.0)
+      elim q.1 as (λ _. Led lost read Direct (fed (mk lost read Direct) t)) [
+        | inl d ↦ inl (subst (λ p. Good p lost (left read Direct)) (sym (down_direct lost read t d.1)) (loses lost read so below d.0))
         | inr d ↦
-            let s = held.shares (K read) i.index d.0 in
-            let reaches = s.reaches in
+            let s = remains.shares (K read) i.index d.0 in
             let reach = i.reach in
             let new = take (Len read) (drop (Place read) (share_of f bytes (K read))) in
-            let told_is : t ≡ told.Bytes new = d.1 ∙ found_in_share (View (K read)) (share_of f bytes (K read)) (Place read) (Len read) s.begins i.some_bytes (omega arith) in
-            subst (λ (r : Response). Good (fed (mk lost read Direct) r) lost (left read Direct)) (sym told_is)
-            (advances (mk lost read Direct) lost read Direct new (left read Direct) so below (range_is f (Pos read) (Len read) bytes some (omega arith)) (omega arith))
+            elim (found_or_none (View (K read)) (share_of f bytes (K read)) (Place read) (Len read) (share_length f end (K read)) s.begins s.reaches i.some_bytes reach) as (λ _. Led lost read Direct (fed (mk lost read Direct) t)) [
+              | inl none ↦ inr (
+                ap (λ (r : Response). (fed (mk lost read Direct) r).1) (d.1 ∙ none.1),
+                subst (λ (b : Bool). LacksIt (cond b (Some request) None)) (sym q.0) (d.0, none.0),
+              )
+              | inr is ↦
+                  inl (subst (λ (r : Response). Good (fed (mk lost read Direct) r) lost (left read Direct)) (sym (d.1 ∙ is))
+                  (advances (mk lost read Direct) lost read Direct new (left read Direct) so below (range_is f (Pos read) (Len read) bytes some (omega arith)) (omega arith)))
+            ]
       ]
 
-  step_lengths : (lost : List Bool) (read : List ℕ) (t : Response) → SoFar lost read → Missing lost read → Answers (asked (mk lost read Lengths)) t → Good (fed (mk lost read Lengths) t) lost (left read Lengths)
+  step_lengths : (lost : List Bool) (read : List ℕ) (t : Response) → SoFar lost read → Missing lost read → Answers (asked (mk lost read Lengths)) t → Led lost read Lengths (fed (mk lost read Lengths) t)
   step_lengths lost read t so miss a =
       let i = in_stripe read miss.below in
       let index = i.index in
-      elim a as (λ _. Good (fed (mk lost read Lengths) t) lost (left read Lengths)) [
-        | inl d ↦ inr (inr (record {
+      elim a as (λ _. Led lost read Lengths (fed (mk lost read Lengths) t)) [
+        | inl d ↦ inl (inr (inr (record {
           i = K read;
           j = n - 1;
           first = omega arith;
@@ -376,25 +392,30 @@ module _ (n f : ℕ) (MayBeDown : ServerId → Type 0) (maps : Maps) (x : Option
           one = inl miss.gone;
           other = inr d.0;
           is = down_lengths lost read t d.1;
-        }))
-        | inr d ↦
-            let p = parity_there (View (n - 1)) (held.parity d.0) in
-            let lengths = p.0 in
-            let parity = p.1 in
-            let sum = parity_range parity (Place read) (Len read) in
-            let none : 0 ≡ n - 1 - (n - 1) = omega arith in
-            let told_is : t ≡ told.Parity lengths sum = d.1 ∙ ap (λ (o : Option Fragment). found o (Place read) (Len read)) p.2 in
-            subst (λ (r : Response). Good (fed (mk lost read Lengths) r) lost (left read Lengths)) (sym told_is)
-            (seeks (mk lost read Lengths) lost read Lengths lengths parity (left read Lengths) so miss p.2 d.0 (n - 1) sum (omega arith)
-            (subst (Summed read lengths parity sum) none
-            (record {
-              long = length-parity_range parity (Place read) (Len read);
-              sums = λ y l. parity_range_at parity (Place read) (Len read) y l ∙ sym (xor_zero_r (get_or parity (Place read + y) 0));
-            }))
-            (omega arith))
+        })))
+        | inr d ↦ elim (parity_there (View (n - 1)) (remains.parity d.0)) as (λ _. Led lost read Lengths (fed (mk lost read Lengths) t)) [
+          | inl none ↦ inr (
+            ap (λ (r : Response). (fed (mk lost read Lengths) r).1) (d.1 ∙ ap (λ (o : Option Fragment). found o (Place read) (Len read)) none),
+            (d.0, none),
+          )
+          | inr p ↦
+              let lengths = p.0 in
+              let parity = p.1 in
+              let sum = parity_range parity (Place read) (Len read) in
+              let none : 0 ≡ n - 1 - (n - 1) = omega arith in
+              let told_is : t ≡ told.Parity lengths sum = d.1 ∙ ap (λ (o : Option Fragment). found o (Place read) (Len read)) p.2 in
+              inl (subst (λ (r : Response). Good (fed (mk lost read Lengths) r) lost (left read Lengths)) (sym told_is)
+              (seeks (mk lost read Lengths) lost read Lengths lengths parity (left read Lengths) so miss p.2 d.0 (n - 1) sum (omega arith)
+              (subst (Summed read lengths parity sum) none
+              (record {
+                long = length-parity_range parity (Place read) (Len read);
+                sums = λ y l. parity_range_at parity (Place read) (Len read) y l ∙ sym (xor_zero_r (get_or parity (Place read + y) 0));
+              }))
+              (omega arith)))
+        ]
       ]
 
-  step_others : (lost : List Bool) (read lengths sum : List ℕ) (j : ℕ) (t : Response) → SoFar lost read → PhaseFits lost read (Others lengths sum j) → Answers (asked (mk lost read (Others lengths sum j))) t → Good (fed (mk lost read (Others lengths sum j)) t) lost (left read (Others lengths sum j))
+  step_others : (lost : List Bool) (read lengths sum : List ℕ) (j : ℕ) (t : Response) → SoFar lost read → PhaseFits lost read (Others lengths sum j) → Answers (asked (mk lost read (Others lengths sum j))) t → Led lost read (Others lengths sum j) (fed (mk lost read (Others lengths sum j)) t)
   step_others lost read lengths sum j t so fits a =
       let parity = fits.0 in
       let q = fits.1 in
@@ -403,8 +424,8 @@ module _ (n f : ℕ) (MayBeDown : ServerId → Type 0) (maps : Maps) (x : Option
       let jn = q.index in
       let phase = Others lengths sum j in
       let len = min (Len read) (get_or lengths j 0 - Place read) in
-      elim a as (λ _. Good (fed (mk lost read phase) t) lost (left read phase)) [
-        | inl d ↦ inr (inr (record {
+      elim a as (λ _. Led lost read phase (fed (mk lost read phase) t)) [
+        | inl d ↦ inl (inr (inr (record {
           i = K read;
           j = j;
           first = omega arith;
@@ -413,7 +434,7 @@ module _ (n f : ℕ) (MayBeDown : ServerId → Type 0) (maps : Maps) (x : Option
           one = inl q.missing.gone;
           other = inr d.0;
           is = down_others lost read lengths sum j t d.1;
-        }))
+        })))
         | inr d ↦
             let c = covers_it lengths parity q.stands q.looked in
             let stored = c.stored j jn d.0 in
@@ -421,35 +442,70 @@ module _ (n f : ℕ) (MayBeDown : ServerId → Type 0) (maps : Maps) (x : Option
             let some_bytes = i.some_bytes in
             let sh = share_of f bytes j in
             let new = take len (drop (Place read) sh) in
-            let told_is : t ≡ told.Bytes new = d.1 ∙ found_in_share (View j) sh (Place read) len (held.shares j jn d.0).begins (omega arith) (omega arith) in
-            let summed = q.summed in
-            let long = summed.long in
-            let lists = without (covered f bytes lengths) (K read) in
-            let own : lists j ≡ covered f bytes lengths j = ap (λ (b : Bool). cond b [] (covered f bytes lengths j)) (ne_eqb j (K read) q.other) in
-            let at = λ (y : ℕ) (l : y < Len read). elim (cases_lt y (get_or lengths j 0 - Place read)) as (λ _. get_or new y 0 ≡ get_or (lists j) (Place read + y) 0) [
-              | inl here ↦
-                  get_or-take len (drop (Place read) sh) y 0 (omega arith) ∙ get_or-drop (Place read) sh y 0
-                  ∙ sym (ap (λ (ls : List ℕ). get_or ls (Place read + y) 0) own ∙ get_or-take (get_or lengths j 0) sh (Place read + y) 0 (omega arith))
-              | inr past ↦
-                  get_or_past new y 0 (omega (arith, length-take len (drop (Place read) sh)))
-                  ∙ sym (ap (λ (ls : List ℕ). get_or ls (Place read + y) 0) own ∙ get_or_past (covered f bytes lengths j) (Place read + y) 0 (omega (arith, length-take (get_or lengths j 0) sh)))
-            ] in
-            subst (λ (r : Response). Good (fed (mk lost read phase) r) lost (left read phase)) (sym told_is)
-            (seeks (mk lost read phase) lost read phase lengths parity (left read phase) so q.missing q.stands q.looked (n - 1 - (j + 1)) (xored sum new) (omega arith)
-            (subst (Summed read lengths parity (xored sum new)) (omega arith)
-            (one_more read lengths parity sum (xored sum new) j summed (length-xored sum new ∙ long)
-            (λ y l. get_or-xored sum new y (omega arith) ∙ ap (bit_xor (get_or sum y 0)) (at y l))))
-            (omega arith))
+            elim (found_or_none (View j) sh (Place read) len (get_or lengths j 0) (remains.shares j jn d.0).begins stored (omega arith) (omega arith)) as (λ _. Led lost read phase (fed (mk lost read phase) t)) [
+              | inl none ↦ inr (ap (λ (r : Response). (fed (mk lost read phase) r).1) (d.1 ∙ none.1), (d.0, none.0))
+              | inr is ↦
+                  let summed = q.summed in
+                  let long = summed.long in
+                  let lists = without (covered f bytes lengths) (K read) in
+                  let own : lists j ≡ covered f bytes lengths j = ap (λ (b : Bool). cond b [] (covered f bytes lengths j)) (ne_eqb j (K read) q.other) in
+                  let at = λ (y : ℕ) (l : y < Len read). elim (cases_lt y (get_or lengths j 0 - Place read)) as (λ _. get_or new y 0 ≡ get_or (lists j) (Place read + y) 0) [
+                    | inl here ↦
+                        get_or-take len (drop (Place read) sh) y 0 (omega arith) ∙ get_or-drop (Place read) sh y 0
+                        ∙ sym (ap (λ (ls : List ℕ). get_or ls (Place read + y) 0) own ∙ get_or-take (get_or lengths j 0) sh (Place read + y) 0 (omega arith))
+                    | inr past ↦
+                        get_or_past new y 0 (omega (arith, length-take len (drop (Place read) sh)))
+                        ∙ sym (ap (λ (ls : List ℕ). get_or ls (Place read + y) 0) own ∙ get_or_past (covered f bytes lengths j) (Place read + y) 0 (omega (arith, length-take (get_or lengths j 0) sh)))
+                  ] in
+                  inl (subst (λ (r : Response). Good (fed (mk lost read phase) r) lost (left read phase)) (sym (d.1 ∙ is))
+                  (seeks (mk lost read phase) lost read phase lengths parity (left read phase) so q.missing q.stands q.looked (n - 1 - (j + 1)) (xored sum new) (omega arith)
+                  (subst (Summed read lengths parity (xored sum new)) (omega arith)
+                  (one_more read lengths parity sum (xored sum new) j summed (length-xored sum new ∙ long)
+                  (λ y l. get_or-xored sum new y (omega arith) ∙ ap (bit_xor (get_or sum y 0)) (at y l))))
+                  (omega arith)))
+            ]
       ]
 
-  pub step : (lost : List Bool) (read : List ℕ) (phase : Phase) (t : Response) → SoFar lost read → PhaseFits lost read phase → Answers (asked (mk lost read phase)) t → Good (fed (mk lost read phase) t) lost (left read phase)
+  pub step : (lost : List Bool) (read : List ℕ) (phase : Phase) (t : Response) → SoFar lost read → PhaseFits lost read phase → Answers (asked (mk lost read phase)) t → Led lost read phase (fed (mk lost read phase) t)
   step lost read Direct t so fits a = step_direct lost read t so fits a
   step lost read Lengths t so fits a = step_lengths lost read t so fits a
   step lost read (Others lengths sum j) t so fits a = step_others lost read lengths sum j t so fits a
 
+  -- a stripe that is held has each fragment that is asked for
+  module _ (held : StripeHolds (view_of n f maps x) ptr.log ptr.stripe end bytes) where
+    none_reaches : (o : Option Fragment) (k : ℕ) → o ≡ None → k ≤ length (share_bytes o) → k ≡ 0
+    none_reaches o k none le = omega (arith, ap (λ (z : Option Fragment). length (share_bytes z)) none)
+
+    lacks_some : (b : Bool) (o : ServerId × Request) → LacksIt (cond b (Some o) None) → (b ≡ true) × LacksIt (Some o)
+    lacks_some true o l = (refl, l)
+    lacks_some false o l = absurd l
+
+    pub direct_is_there : (lost : List Bool) (read : List ℕ) → LacksIt (asked (mk lost read Direct)) → ⊥
+    direct_is_there lost read l =
+        let q = lacks_some (ltb (Pos read) Last) (At (K read), ask.Retrieve (frag_id ptr.log ptr.stripe (K read)) (Place read) (Len read)) l in
+        let i = in_stripe read (ltb-true (Pos read) Last q.0) in
+        let reach = i.reach in
+        let some_bytes = i.some_bytes in
+        omega (arith, none_reaches (View (K read)) (share_length f end (K read)) q.1.1 (held.shares (K read) i.index q.1.0).reaches)
+
+    pub parity_is_there : (lost : List Bool) (read : List ℕ) → LacksIt (asked (mk lost read Lengths)) → ⊥
+    parity_is_there lost read l = subst (ParityHolds (n - 1) f View (away_at n x ptr.log ptr.stripe) end bytes) l.1 (held.parity l.0)
+
+    other_is_there : (lost : List Bool) (read lengths sum : List ℕ) (j : ℕ) → PhaseFits lost read (Others lengths sum j) → LacksIt (asked (mk lost read (Others lengths sum j))) → ⊥
+    other_is_there lost read lengths sum j fits l =
+        let q = fits.1 in
+        let c = subst (ParityHolds (n - 1) f View (away_at n x ptr.log ptr.stripe) end bytes) q.stands (held.parity q.looked) in
+        let reached = q.reached in
+        omega (arith, none_reaches (View j) (get_or lengths j 0) l.1 (c.stored j q.index l.0))
+
+    pub is_there : (lost : List Bool) (read : List ℕ) (phase : Phase) → PhaseFits lost read phase → LacksIt (asked (mk lost read phase)) → ⊥
+    is_there lost read Direct fits l = direct_is_there lost read l
+    is_there lost read Lengths fits l = parity_is_there lost read l
+    is_there lost read (Others lengths sum j) fits l = other_is_there lost read lengths sum j fits l
+
 -- A read of which one server at most is lost.
 module _ (n f : ℕ) (maps : Maps) (x z : Option ServerId) (ptr : Ptr) (end : ℕ) (bytes : List ℕ)
-    (two : 2 ≤ n) (some : 0 < f) (inside : ptr.offset + ptr.len ≤ end) (held : StripeHolds n f maps x ptr.log ptr.stripe end bytes) where
+    (two : 2 ≤ n) (some : 0 < f) (inside : ptr.offset + ptr.len ≤ end) (held : StripeHolds (view_of n f maps x) ptr.log ptr.stripe end bytes) where
   abbrev IsZ : ServerId → Type 0
   IsZ server = is_away z server ≡ true
 
@@ -468,8 +524,11 @@ module _ (n f : ℕ) (maps : Maps) (x z : Option ServerId) (ptr : Ptr) (end : �
   abbrev to_come : List ℕ → Phase → ℕ
   to_come read phase = work.answers_left n f ptr read phase
 
+  remains : StripeRemains (view_of n f maps x) ptr.log ptr.stripe end bytes
+  remains = held_remains (n - 1) f (standing n maps ptr.log ptr.stripe) (away_at n x ptr.log ptr.stripe) end bytes held
+
   abbrev Turn : Reading × Got → List Bool → ℕ → Type 0
-  Turn p lost m = Good n f IsZ maps x ptr end bytes two some inside held p lost m
+  Turn p lost m = Good n f IsZ maps x ptr end bytes two some inside remains p lost m
 
   -- each server that is lost is z
   abbrev pub OnlyZ : List Bool → Type 0
@@ -479,13 +538,16 @@ module _ (n f : ℕ) (maps : Maps) (x z : Option ServerId) (ptr : Ptr) (end : �
   is_z lost k only l (inl e) = only k l e
   is_z lost k only l (inr e) = e
 
-  never_blocks : {A : Type 0} (p : Reading × Got) (lost : List Bool) → OnlyZ lost → Blocks n f IsZ maps x ptr end bytes two some inside held p lost → A
+  never_blocks : {A : Type 0} (p : Reading × Got) (lost : List Bool) → OnlyZ lost → Blocks n f IsZ maps x ptr end bytes two some inside remains p lost → A
   never_blocks p lost only b =
       absurd (b.differ (away_once n z ptr.log ptr.stripe b.j b.i b.second b.first (is_z lost b.j only b.second b.other) (is_z lost b.i only b.first b.one)))
 
   take_step : (lost : List Bool) (read : List ℕ) (phase : Phase) (t : Response) → work.SoFar n f ptr bytes lost read → Fits lost read phase
       → AnswersFrom maps x z (asked (read_at lost read phase)) t → Turn (fed (read_at lost read phase) t) lost (to_come read phase)
-  take_step lost read phase t so fits a = step n f IsZ maps x ptr end bytes two some inside held lost read phase t so fits a
+  take_step lost read phase t so fits a = elim (step n f IsZ maps x ptr end bytes two some inside remains lost read phase t so fits a) as (λ _. Turn (fed (read_at lost read phase) t) lost (to_come read phase)) [
+    | inl good ↦ good
+    | inr gone ↦ absurd (is_there n f IsZ maps x ptr end bytes two some inside remains held lost read phase fits gone.1)
+  ]
 
   goes_on : (p : Reading × Got) (rest : Option Got) → p.1 ≡ got.More → cond (is_more p.1) rest (Some p.1) ≡ rest
   goes_on p rest e = ap (λ (g : Got). cond (is_more g) rest (Some p.1)) e

@@ -12,7 +12,7 @@ use Rattle.zb_types.specs.declared.requests.Request.{Request}
 use Rattle.zb_types.specs.declared.requests.Request.TheVariants as ask
 use Rattle.zb_holding.specs.Exclusive.{xor_at, greatest}
 use Rattle.zb_holding.specs.Placing.{share_length, share_of, frag_id, server_of}
-use Rattle.zb_holding.specs.Holding.{Maps, share_bytes, Begins, covered, ShareHolds, CoversShares, ParityHolds, ViewHolds, StripeHolds, is_away, standing, away_at}
+use Rattle.zb_holding.specs.Holding.{Maps, share_bytes, Begins, covered, ShareHolds, CoversShares, ParityHolds, FragmentsHold, StripeHolds, is_away, standing, away_at, view_of}
 use Rattle.zb_holding.specs.Carrying.{carried_all}
 use Rattle.zb_holding.proofs.Exclusives.{xor_same, xor_past, le_greatest}
 use Rattle.zb_stripe.specs.declared.flush.Part.{Part}
@@ -41,7 +41,7 @@ module _ (m f : ℕ) (stands : ℕ → Option Fragment) (away : ℕ → Bool) (l
       record { count = c.count; enough = λ k l. let e = c.enough k l in omega arith; within = c.within; stored = c.stored; exclusive = c.exclusive; longest = c.longest }
 
   -- a stripe that is held up to an end is held up to each end before it
-  pub holds_less : ViewHolds m f stands away high bytes → ViewHolds m f stands away low bytes
+  pub holds_less : FragmentsHold m f stands away high bytes → FragmentsHold m f stands away low bytes
   holds_less h =
       let w = h.whole in
       record {
@@ -69,7 +69,7 @@ module _ (m f : ℕ) (bytes : List ℕ) (b end : ℕ) (away : ℕ → Bool) (old
       }
 
   -- while shares grow, what was held stays held
-  pub holds_grown : ViewHolds m f old away end (take b bytes) → end ≤ b → ViewHolds m f new away end bytes
+  pub holds_grown : FragmentsHold m f old away end (take b bytes) → end ≤ b → FragmentsHold m f new away end bytes
   holds_grown h eb =
       record {
         whole = omega arith;
@@ -89,12 +89,12 @@ module _ (m f : ℕ) (bytes : List ℕ) (b end : ℕ) (away : ℕ → Bool) (old
         parity = λ a. subst (ParityHolds m f new away end bytes) (sym (g.left m le a)) (grown_parity (old m) (h.parity a));
       }
 
-module _ (n f : ℕ) (out x : Option ServerId) (class : Class) (log : LogId) (part : Part) (spared : IsSpared out x) (fits : IsWritable n f part) where
+module _ (n f : ℕ) (out x : Option ServerId) (class : Class) (log : LogId) (part : Part) (spared : IsSpared out x) (fits : IsWritable ((n - 1) * f) part) where
   abbrev Away : ℕ → Bool
   Away = away_at n x log part.stripe
 
   abbrev HoldsAll : (ℕ → Option Fragment) → Type 0
-  HoldsAll view = ViewHolds (n - 1) f view Away (length part.bytes) part.bytes
+  HoldsAll view = FragmentsHold (n - 1) f view Away (length part.bytes) part.bytes
 
   shares_end : (view : ℕ → Option Fragment) → ((k : ℕ) → k < n - 1 → Away k ≡ false → IsWhole (view k) (share_of f part.bytes k))
       → (k : ℕ) → k < n - 1 → Away k ≡ false → ShareHolds (n - 1) f view Away (length part.bytes) part.bytes k
@@ -202,29 +202,29 @@ module _ (n f : ℕ) (out x : Option ServerId) (class : Class) (log : LogId) (pa
         (sym (carried-append maps (share_requests n f out class log part (n - 1)) (parity_request n f out class log part)))
         (holds_end (carried_all maps (share_requests n f out class log part (n - 1))) (λ k l a. g.done k l a))
 
-    begins_all : (end : ℕ) → StripeHolds n f maps x log part.stripe end (take part.begin part.bytes) → (k : ℕ) → k < n - 1 → Away k ≡ false → Begins (View k) (share_of f part.bytes k)
+    begins_all : (end : ℕ) → StripeHolds (view_of n f maps x) log part.stripe end (take part.begin part.bytes) → (k : ℕ) → k < n - 1 → Away k ≡ false → Begins (View k) (share_of f part.bytes k)
     begins_all end h k l a = begins_longer (View k) (share_of f part.bytes k) (share_length f part.begin k) (subst (Begins (View k)) (share_of-take f part.bytes part.begin k) (h.shares k l a).begins)
 
-    pub whole_law : (end : ℕ) → StripeHolds n f maps x log part.stripe end (take part.begin part.bytes) → StandsUpTo n f maps x log part.stripe part.begin
+    pub whole_law : (end : ℕ) → StripeHolds (view_of n f maps x) log part.stripe end (take part.begin part.bytes) → StandsUpTo (view_of n f maps x) log part.stripe part.begin
         → HoldsAll (standing n (carried_all maps (part_requests n f out class log part)) log part.stripe)
     whole_law end h s = whole_holds s (begins_all end h)
 
-    pub each_law : (end : ℕ) → end ≤ part.begin → StripeHolds n f maps x log part.stripe end (take part.begin part.bytes) → StandsUpTo n f maps x log part.stripe part.begin
-        → (i : ℕ) → StripeHolds n f (carried_all maps (take i (part_requests n f out class log part))) x log part.stripe end part.bytes
+    pub each_law : (end : ℕ) → end ≤ part.begin → StripeHolds (view_of n f maps x) log part.stripe end (take part.begin part.bytes) → StandsUpTo (view_of n f maps x) log part.stripe part.begin
+        → (i : ℕ) → StripeHolds (view_of n f (carried_all maps (take i (part_requests n f out class log part))) x) log part.stripe end part.bytes
     each_law end le h s i =
         let new = fits.new in
         let room = fits.room in
         elim (part_prefix i) [
           | inl r ↦
-              subst (λ (rs : List (ServerId × Request)). StripeHolds n f (carried_all maps rs) x log part.stripe end part.bytes) (sym r.2)
+              subst (λ (rs : List (ServerId × Request)). StripeHolds (view_of n f (carried_all maps rs) x) log part.stripe end part.bytes) (sym r.2)
               (holds_grown (n - 1) f part.bytes part.begin end Away View (standing n (carried_all maps (share_requests n f out class log part r.0)) log part.stripe) r.0 room (omega arith) r.1
               (grows_all n f out x class log part spared View maps (λ k. refl) (n - 1) r.0 r.1 s (begins_all end h)) h le)
           | inr all ↦
-              subst (λ (rs : List (ServerId × Request)). StripeHolds n f (carried_all maps rs) x log part.stripe end part.bytes) (sym all)
+              subst (λ (rs : List (ServerId × Request)). StripeHolds (view_of n f (carried_all maps rs) x) log part.stripe end part.bytes) (sym all)
               (holds_less (n - 1) f (standing n (carried_all maps (part_requests n f out class log part)) log part.stripe) Away end (length part.bytes) part.bytes (omega arith) (whole_law end h s))
         ]
 
-    pub fresh_law : part.begin ≡ 0 → IsUnwritten n maps x log part.stripe → HoldsAll (standing n (carried_all maps (part_requests n f out class log part)) log part.stripe)
+    pub fresh_law : part.begin ≡ 0 → IsUnwritten (view_of n f maps x) log part.stripe → HoldsAll (standing n (carried_all maps (part_requests n f out class log part)) log part.stripe)
     fresh_law start none =
         whole_holds
         (λ k l a. subst (λ o. HasBytes o (share_length f part.begin k)) (sym (none k (omega arith) a)) (omega arith))

@@ -10,6 +10,7 @@ pub mod Mended
 pub mod NotEmpty
 pub mod Ongoing
 pub mod Ranges
+pub mod Remaining
 pub mod Rebuilt
 pub mod Seeing
 pub mod Working

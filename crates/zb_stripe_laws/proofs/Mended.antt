@@ -9,7 +9,7 @@ use Rattle.zb_holding.specs.Fragments.{Fragment}
 use Rattle.zb_holding.specs.Fragments.{share_fragment, parity_fragment}
 use Rattle.zb_holding.specs.Exclusive.{xor_at, greatest}
 use Rattle.zb_holding.specs.Placing.{share_of, share_length}
-use Rattle.zb_holding.specs.Holding.{share_bytes, Begins, ShareHolds, ParityHolds, ViewHolds}
+use Rattle.zb_holding.specs.Holding.{share_bytes, Begins, ShareHolds, ParityHolds, FragmentsHold}
 use Rattle.zb_holding.proofs.Exclusives.{xor_past, le_greatest}
 use Rattle.zb_holding.proofs.Shares.{length-share_of}
 use Rattle.zb_stripe_laws.specs.Restoring.{share_or_none, end_lengths, end_parity, with_index, lengths_in}
@@ -24,7 +24,7 @@ length_restored bytes = cond_both (eqb (length bytes) 0) None (Some (share_fragm
 
 module _ (m f : ℕ) (view : ℕ → Option Fragment) (away : ℕ → Bool) (end : ℕ) (bytes : List ℕ) where
   -- more may be away
-  pub holds_away : (more : ℕ → Bool) → ((k : ℕ) → more k ≡ false → away k ≡ false) → ViewHolds m f view away end bytes → ViewHolds m f view more end bytes
+  pub holds_away : (more : ℕ → Bool) → ((k : ℕ) → more k ≡ false → away k ≡ false) → FragmentsHold m f view away end bytes → FragmentsHold m f view more end bytes
   holds_away more weaker h = record {
     whole = h.whole;
     room = h.room;
@@ -36,7 +36,7 @@ module _ (m f : ℕ) (view : ℕ → Option Fragment) (away : ℕ → Bool) (end
     parity_away (Some (share_fragment s)) c = c
     parity_away (Some (parity_fragment lengths parity)) c = record { count = c.count; enough = c.enough; within = c.within; stored = λ k l a. c.stored k l (weaker k a); exclusive = c.exclusive; longest = c.longest }
 
-  module _ (h : ViewHolds m f view away end bytes) (j : ℕ) (only : (k : ℕ) → k ≢ j → away k ≡ false) where
+  module _ (h : FragmentsHold m f view away end bytes) (j : ℕ) (only : (k : ℕ) → k ≢ j → away k ≡ false) where
     at_restored : (o : Option Fragment) (P : Option Fragment → Type 0) (k : ℕ) → k ≡ j → P o → P (with_index view j o k)
     at_restored o P k e q = subst (λ (b : Bool). P (if b then o else view k)) (sym (eq-eqb j k (sym e))) q
 
@@ -54,7 +54,7 @@ module _ (m f : ℕ) (view : ℕ → Option Fragment) (away : ℕ → Bool) (end
     -- a low share, restored to the length that the parity covers
     module _ (low : j < m) where
       restored : (o : Option Fragment) → view m ≡ o → ParityHolds m f view away end bytes o
-          → ViewHolds m f (with_index view j (share_or_none (take (slice_index (lengths_in o) j) (share_of f bytes j)))) (λ k. false) end bytes
+          → FragmentsHold m f (with_index view j (share_or_none (take (slice_index (lengths_in o) j) (share_of f bytes j)))) (λ k. false) end bytes
       restored None e c = absurd c
       restored (Some (share_fragment s)) e c = absurd c
       restored (Some (parity_fragment lengths parity)) e c =
@@ -87,7 +87,7 @@ module _ (m f : ℕ) (view : ℕ → Option Fragment) (away : ℕ → Bool) (end
                 }));
           }
 
-      pub share_restored : ViewHolds m f (with_index view j (share_or_none (take (slice_index (lengths_in (view m)) j) (share_of f bytes j)))) (λ k. false) end bytes
+      pub share_restored : FragmentsHold m f (with_index view j (share_or_none (take (slice_index (lengths_in (view m)) j) (share_of f bytes j)))) (λ k. false) end bytes
       share_restored = restored (view m) refl (h.parity (only m (λ e. omega arith)))
 
     length_at : (k : ℕ) → k < m → get_or (end_lengths m f end) k 0 ≡ share_length f end k
@@ -108,7 +108,7 @@ module _ (m f : ℕ) (view : ℕ → Option Fragment) (away : ℕ → Bool) (end
     ]
 
     -- the parity, made over the committed end
-    pub parity_restored : j ≡ m → ViewHolds m f (with_index view j (end_parity m f end bytes)) (λ k. false) end bytes
+    pub parity_restored : j ≡ m → FragmentsHold m f (with_index view j (end_parity m f end bytes)) (λ k. false) end bytes
     parity_restored is =
         let r = end_parity m f end bytes in
         record {

@@ -1,25 +1,28 @@
 -- A read that goes on while what the servers keep changes.
-use Rattle.std.proofs.Common.{◌≡◌, ◌≢◌, ◌⊎◌, ℕ, ◌+◌, ◌-◌, ◌%◌, ◌<◌, ◌≤◌, min, Bool, false, cond, ltb, List, [], length, take, drop, get_or, Option, Some, None, refl, sym, ap, ◌∙◌, subst, inl, inr, arith}
-use Rattle.std.proofs.lemmas.Bool.{le-leb, ltb-true, ltb-false, cond_both}
+use Rattle.std.proofs.Common.{◌≡◌, ◌≢◌, ◌⊎◌, ℕ, ◌+◌, ◌-◌, ◌%◌, ◌<◌, ◌≤◌, min, Bool, true, false, cond, ltb, leb, List, [], length, take, drop, get_or, Option, Some, None, refl, sym, ap, ◌∙◌, subst, inl, inr, arith}
+use Rattle.std.proofs.lemmas.Bool.{le-leb, ltb-true, ltb-false, cond_both, false≢true}
 use Rattle.std.proofs.lemmas.List.{length-take, length-take-le, take-take, drop-take}
 use Rattle.zb_types.specs.declared.ids.ServerId.{ServerId}
 use Rattle.zb_types.specs.declared.ids.Ptr.{Ptr}
+use Rattle.zb_types.specs.declared.requests.Request.{Request}
+use Rattle.zb_types.specs.declared.requests.Request.TheVariants as ask
 use Rattle.zb_types.specs.declared.requests.Response.{Response}
 use Rattle.zb_types.specs.declared.requests.Response.TheVariants as told
 use Rattle.zb_types.specs.declared.requests.StoreFault.TheVariants as fault
 use Rattle.zb_holding.specs.Fragments.{Fragment, share_fragment, parity_fragment}
 use Rattle.zb_holding.specs.Placing.{share_of, frag_id, server_of}
-use Rattle.zb_holding.specs.Holding.{Maps, share_bytes, Begins, StripeHolds, standing, away_at}
+use Rattle.zb_holding.specs.Holding.{Maps, Begins, IsGoneOrReaches, StripeHolds, StripeRemains, is_away, standing, away_at, view_of}
 use Rattle.zb_holding.specs.Carrying.{found}
 use Rattle.zb_stripe.specs.declared.read.Got.{Got}
 use Rattle.zb_stripe.specs.declared.read.Got.TheVariants as got
 use Rattle.zb_stripe.specs.declared.progress.Phase.{Phase}
 use Rattle.zb_stripe.specs.declared.progress.Phase.TheVariants.{Direct, Lengths, Others}
-use Rattle.zb_stripe.specs.Reading.{Reading, names_two, asked, fed}
-use Rattle.zb_stripe_laws.specs.ReadAtWork.{IsGoneOrSame, IsGoneOrLonger, StillStand, ReadAtWork, WasLooked, AnswersWith, MayAnswer, LeadsTo}
+use Rattle.zb_stripe.specs.Reading.{Reading, names_two, asked, fed, is_gone}
+use Rattle.zb_stripe_laws.specs.ReadAtWork.{IsGoneOrSame, IsGoneOrLonger, StillStand, StillGrow, ReadAtWork, WasLooked, TellsOfFragment, AnswersWith, MayAnswer, DidNotAnswer, IsLost, LeadsTo, AsksOther}
 use Rattle.zb_stripe_laws.specs.ReadAtWork as work
 use Rattle.zb_holding.proofs.Placings.{turn_once}
-use Rattle.zb_stripe_laws.proofs.Gathering.{Good, step, covers_it}
+use Rattle.zb_stripe_laws.proofs.Gathering.{Good, LacksIt, step, covers_it, direct_is_there, parity_is_there}
+use Rattle.zb_stripe_laws.proofs.Remaining.{held_remains}
 
 -- a range within the committed bytes is the same in lists that agree on these
 same_range : (end o k : ℕ) (one other : List ℕ) → o + k ≤ end → take end one ≡ take end other → take k (drop o one) ≡ take k (drop o other)
@@ -27,9 +30,9 @@ same_range end o k one other le same =
     let cut = λ (w : List ℕ). sym (drop-take o k w) ∙ ap (drop o) (sym (take-take (o + k) end w le)) in
     cut one ∙ ap (λ w. drop o (take (o + k) w)) same ∙ sym (cut other)
 
--- of a share that is gone or the same a range is answered as it was, or not found
-found_still : (now seen : Option Fragment) (limit place len : ℕ) → IsGoneOrSame now seen limit → place + len ≤ limit → limit ≤ length (share_bytes seen)
-    → (found now place len ≡ told.Refused fault.NoFragment) ⊎ (found now place len ≡ found seen place len)
+-- of a share that is the same a range is answered as it was
+found_still : (now seen : Option Fragment) (limit place len : ℕ) → IsGoneOrSame now seen limit → place + len ≤ limit → IsGoneOrReaches limit seen
+    → (now ≡ None) ⊎ (found now place len ≡ found seen place len)
 found_still None seen limit place len still le reach = inl refl
 found_still (Some (share_fragment now)) (Some (share_fragment seen)) limit place len still le reach =
     let long = length-take-le limit seen reach in
@@ -47,8 +50,16 @@ found_still (Some (parity_fragment a b)) None limit place len still le reach = a
 found_still (Some (parity_fragment a b)) (Some (share_fragment seen)) limit place len still le reach = absurd still
 found_still (Some (parity_fragment a b)) (Some (parity_fragment c d)) limit place len still le reach = absurd still
 
+-- a share that was gone and still begins the same is gone
+still_gone : (now seen : Option Fragment) (limit : ℕ) → IsGoneOrSame now seen limit → seen ≡ None → now ≡ None
+still_gone None seen limit still e = refl
+still_gone (Some (share_fragment now)) seen limit still e = absurd (subst (λ (o : Option Fragment). IsGoneOrSame (Some (share_fragment now)) o limit) e still)
+still_gone (Some (parity_fragment a b)) None limit still e = absurd still
+still_gone (Some (parity_fragment a b)) (Some (share_fragment seen)) limit still e = absurd still
+still_gone (Some (parity_fragment a b)) (Some (parity_fragment c d)) limit still e = absurd still
+
 -- a share that is gone or the same stays so while it is gone or grows
-still_longer : (new now seen : Option Fragment) (limit : ℕ) → IsGoneOrLonger new now → IsGoneOrSame now seen limit → limit ≤ length (share_bytes seen) → IsGoneOrSame new seen limit
+still_longer : (new now seen : Option Fragment) (limit : ℕ) → IsGoneOrLonger new now → IsGoneOrSame now seen limit → IsGoneOrReaches limit seen → IsGoneOrSame new seen limit
 still_longer None now seen limit longer still reach = tt
 still_longer (Some (share_fragment new)) None seen limit longer still reach = absurd longer
 still_longer (Some (share_fragment new)) (Some (parity_fragment a b)) seen limit longer still reach = absurd longer
@@ -71,24 +82,38 @@ same_lengths : (o : Option Fragment) (lengths parity more other : List ℕ) → 
 unfolding lengths_at
 same_lengths o lengths parity more other a b = ap lengths_at (sym a ∙ b)
 
--- two servers of a stripe are named with the lesser first
-two_named : (n : ℕ) (ptr : Ptr) (now : Maps) (end : ℕ) (bytes : List ℕ) (before r : Reading) (i j : ℕ) → i < n → j < n → j ≢ i
-    → LeadsTo now end bytes before r (names_two (server_of n (frag_id ptr.log ptr.stripe i)) (server_of n (frag_id ptr.log ptr.stripe j)))
-two_named n ptr now end bytes before r i j il jl ne =
-    let a = server_of n (frag_id ptr.log ptr.stripe i) in
-    let b = server_of n (frag_id ptr.log ptr.stripe j) in
-    cond_both (ltb a.0 b.0) (got.Unreachable a b) (got.Unreachable b a) (LeadsTo now end bytes before r) (λ less. ltb-true a.0 b.0 less)
-    (λ not_less.
-    let le = ltb-false a.0 b.0 not_less in
-    let differ : a.0 ≢ b.0 = λ e. ne (turn_once n (ptr.log.0 + ptr.stripe) j i jl il (omega arith)) in
-    omega (arith, differ))
-
 abbrev Any : ServerId → Type 0
 Any server = Unit {0}
+
+-- who isn't there is the one that was asked
+asked_alone : (maps : Maps) (x : Option ServerId) (request : Option (ServerId × Request)) (t : Response) → AnswersWith Any maps x request t → AnswersWith (DidNotAnswer request t) maps x request t
+asked_alone maps x None t a = absurd a
+asked_alone maps x (Some (server, ask.Store id bytes class)) t a = absurd a
+asked_alone maps x (Some (server, ask.Append id place bytes)) t a = absurd a
+asked_alone maps x (Some (server, ask.Parity id lengths bytes class)) t a = absurd a
+asked_alone maps x (Some (server, ask.Retrieve id place len)) t (inl d) = inl ((refl, d.1), d.1)
+asked_alone maps x (Some (server, ask.Retrieve id place len)) t (inr d) = inr d
+asked_alone maps x (Some (server, ask.Delete id)) t a = absurd a
+asked_alone maps x (Some (server, ask.Identify after)) t a = absurd a
+asked_alone maps x (Some (server, ask.Fence generation)) t a = absurd a
+
+-- what is found of a fragment tells of it
+tells_of : (fragment : Fragment) (place len : ℕ) → TellsOfFragment (found (Some fragment) place len)
+tells_of (share_fragment bytes) place len = cond_both (leb (place + len) (length bytes)) (told.Bytes (take len (drop place bytes))) (told.Refused (fault.Short (length bytes))) TellsOfFragment (λ _. tt) (λ _. tt)
+tells_of (parity_fragment lengths parity) place len = tt
+
+not_gone : (g other : Got) → g ≡ other → is_gone other ≡ false → g ≡ got.Gone → ⊥
+not_gone g other e isnt gone = false≢true (sym isnt ∙ ap is_gone (sym e ∙ gone))
 
 module _ (n f : ℕ) (ptr : Ptr) (end : ℕ) (two : 2 ≤ n) (some : 0 < f) (inside : ptr.offset + ptr.len ≤ end) where
   abbrev mk : List Bool → List ℕ → Phase → Reading
   mk lost read phase = record { servers = n; fragment = f; ptr = ptr; lost = lost; read = read; phase = phase }
+
+  abbrev At : ℕ → ServerId
+  At k = server_of n (frag_id ptr.log ptr.stripe k)
+
+  abbrev Asked : List Bool → List ℕ → Phase → Response → ServerId → Type 0
+  Asked lost read phase t server = DidNotAnswer (asked (mk lost read phase)) t server
 
   -- what is read so far is so from each maps that hold the same committed bytes
   moved : (one other : List ℕ) (lost : List Bool) (read : List ℕ) → take end one ≡ take end other → work.SoFar n f ptr one lost read → work.SoFar n f ptr other lost read
@@ -96,7 +121,18 @@ module _ (n f : ℕ) (ptr : Ptr) (end : ℕ) (two : 2 ≤ n) (some : 0 < f) (ins
       let within = so.within in
       record { count = so.count; within = so.within; begins = so.begins ∙ same_range end ptr.offset (length read) one other (omega arith) same }
 
-  module _ (now : Maps) (x : Option ServerId) (bytes : List ℕ) (held : StripeHolds n f now x ptr.log ptr.stripe end bytes) where
+  -- two servers of a stripe that are lost are named with the lesser first
+  two_named : (now : Maps) (bytes : List ℕ) (before : Reading) (t : Response) (r : Reading) (i j : ℕ) → i < n → j < n → j ≢ i
+      → IsLost before t (At i) → IsLost before t (At j) → LeadsTo now end bytes before t r (names_two (At i) (At j))
+  two_named now bytes before t r i j il jl ne one other =
+      cond_both (ltb (At i).0 (At j).0) (got.Unreachable (At i) (At j)) (got.Unreachable (At j) (At i)) (LeadsTo now end bytes before t r)
+      (λ less. (ltb-true (At i).0 (At j).0 less, one, other))
+      (λ not_less.
+      let le = ltb-false (At i).0 (At j).0 not_less in
+      let differ : (At i).0 ≢ (At j).0 = λ e. ne (turn_once n (ptr.log.0 + ptr.stripe) j i jl il (omega arith)) in
+      (omega (arith, differ), other, one))
+
+  module _ (now : Maps) (x : Option ServerId) (bytes : List ℕ) (remains : StripeRemains (view_of n f now x) ptr.log ptr.stripe end bytes) where
     self_share : (o : Option Fragment) (bs : List ℕ) (limit : ℕ) → Begins o bs → IsGoneOrSame o o limit
     self_share None bs limit b = tt
     self_share (Some (share_fragment s)) bs limit b = refl
@@ -105,122 +141,201 @@ module _ (n f : ℕ) (ptr : Ptr) (end : ℕ) (two : 2 ≤ n) (some : 0 < f) (ins
     still_self : (phase : Phase) → StillStand n ptr now now x phase
     still_self Direct = tt
     still_self Lengths = tt
-    still_self (Others lengths sum k) = λ j l a. self_share (standing n now ptr.log ptr.stripe j) (share_of f bytes j) (get_or lengths j 0) (held.shares j l a).begins
-
-    abbrev Leads : Reading → Reading × Got → Type 0
-    Leads before p = LeadsTo now end bytes before p.0 p.1
+    still_self (Others lengths sum k) = λ j l covers a. self_share (standing n now ptr.log ptr.stripe j) (share_of f bytes j) (get_or lengths j 0) (remains.shares j l a).begins
 
     -- a read of the maps of now
     pub at_work : (lost : List Bool) (read : List ℕ) (phase : Phase) → work.SoFar n f ptr bytes lost read
         → work.PhaseFits n f ptr now x bytes lost read phase → ReadAtWork now end bytes (mk lost read phase)
-    at_work lost read phase so fits = record { seen = now; y = x; then_bytes = bytes; held = held; same = refl; so_far = so; fits = fits; still = still_self phase }
+    at_work lost read phase so fits = record { seen = now; y = x; then_bytes = bytes; remained = remains; same = refl; so_far = so; fits = fits; still = still_self phase }
 
-    from_now : (lost : List Bool) (read : List ℕ) (phase : Phase) (p : Reading × Got)
-        → Good n f Any now x ptr end bytes two some inside held p lost (work.answers_left n f ptr read phase) → Leads (mk lost read phase) p
-    from_now lost read phase p (inl g) =
-        subst (LeadsTo now end bytes (mk lost read phase) p.0) (sym g.more)
-        (subst (λ (r : Reading). LeadsTo now end bytes (mk lost read phase) r got.More) (sym g.is) (at_work g.lost g.read g.phase g.so_far g.fits, g.less))
-    from_now lost read phase p (inr (inl e)) = subst (LeadsTo now end bytes (mk lost read phase) p.0) (sym e) refl
-    from_now lost read phase p (inr (inr b)) =
-        subst (LeadsTo now end bytes (mk lost read phase) p.0) (sym b.is) (two_named n ptr now end bytes (mk lost read phase) p.0 b.i b.j b.first b.second b.differ)
+    module _ (lost : List Bool) (read : List ℕ) (phase : Phase) (t : Response) where
+      abbrev Before : Reading
+      Before = mk lost read phase
 
-    module _ (lost : List Bool) (read lengths sum : List ℕ) (j : ℕ) (w : ReadAtWork now end bytes (mk lost read (Others lengths sum j))) where
+      abbrev Leads : Reading × Got → Type 0
+      Leads p = LeadsTo now end bytes Before t p.0 p.1
+
+      is_lost_at : (k : ℕ) → k < n → (get_or lost k false ≡ true) ⊎ Asked lost read phase t (At k) → IsLost Before t (At k)
+      is_lost_at k l e = record { index = k; below = l; at = refl; lost = e }
+
+      from_now : (p : Reading × Got)
+          → Good n f (Asked lost read phase t) now x ptr end bytes two some inside remains p lost (work.answers_left n f ptr read phase) → Leads p
+      from_now p (inl g) =
+          subst (LeadsTo now end bytes Before t p.0) (sym g.more)
+          (subst (λ (r : Reading). LeadsTo now end bytes Before t r got.More) (sym g.is)
+          (record { work = at_work g.lost g.read g.phase g.so_far g.fits; fewer = g.less; loses = g.known }))
+      from_now p (inr (inl e)) = subst (LeadsTo now end bytes Before t p.0) (sym e) refl
+      from_now p (inr (inr b)) =
+          subst (LeadsTo now end bytes Before t p.0) (sym b.is)
+          (two_named now bytes Before t p.0 b.i b.j b.first b.second b.differ (is_lost_at b.i b.first b.one) (is_lost_at b.j b.second b.other))
+
+      lacks_asked : (request : Option (ServerId × Request)) → LacksIt n f (Asked lost read phase t) now x ptr end bytes two some inside remains request → work.LacksAsked now request
+      lacks_asked None l = absurd l
+      lacks_asked (Some (server, ask.Store id bs class)) l = absurd l
+      lacks_asked (Some (server, ask.Append id place bs)) l = absurd l
+      lacks_asked (Some (server, ask.Parity id lengths bs class)) l = absurd l
+      lacks_asked (Some (server, ask.Retrieve id place len)) l = l.1
+      lacks_asked (Some (server, ask.Delete id)) l = absurd l
+      lacks_asked (Some (server, ask.Identify after)) l = absurd l
+      lacks_asked (Some (server, ask.Fence generation)) l = absurd l
+
+      now_on : work.SoFar n f ptr bytes lost read → work.PhaseFits n f ptr now x bytes lost read phase → AnswersWith Any now x (asked Before) t → Leads (fed Before t)
+      now_on so fits a = elim (step n f (Asked lost read phase t) now x ptr end bytes two some inside remains lost read phase t so fits (asked_alone now x (asked Before) t a)) as (λ _. Leads (fed Before t)) [
+        | inl good ↦ from_now (fed Before t) good
+        | inr gone ↦ subst (LeadsTo now end bytes Before t (fed Before t).0) (sym gone.0) (lacks_asked (asked Before) gone.1)
+      ]
+
+    module _ (lost : List Bool) (read lengths sum : List ℕ) (j : ℕ) (t : Response) (w : ReadAtWork now end bytes (mk lost read (Others lengths sum j))) where
+      abbrev Others_before : Reading
+      Others_before = mk lost read (Others lengths sum j)
+
       still_later : (later : List Bool) (more : List ℕ) (phase : Phase) → work.PhaseFits n f ptr w.seen w.y w.then_bytes later more phase → StillStand n ptr now w.seen w.y phase
       still_later later more Direct fits = tt
       still_later later more Lengths fits = tt
-      still_later later more (Others ls sum' k) fits = λ i l a.
-          subst (λ (z : List ℕ). IsGoneOrSame (standing n now ptr.log ptr.stripe i) (standing n w.seen ptr.log ptr.stripe i) (get_or z i 0))
-          (same_lengths (standing n w.seen ptr.log ptr.stripe (n - 1)) lengths w.fits.0 ls fits.0 w.fits.1.stands fits.1.stands) (w.still i l a)
+      still_later later more (Others ls sum' k) fits = λ i l covers a.
+          let same = same_lengths (standing n w.seen ptr.log ptr.stripe (n - 1)) lengths w.fits.0 ls fits.0 w.fits.1.stands fits.1.stands in
+          let at = ap (λ (z : List ℕ). get_or z i 0) same in
+          subst (λ (z : List ℕ). IsGoneOrSame (standing n now ptr.log ptr.stripe i) (standing n w.seen ptr.log ptr.stripe i) (get_or z i 0)) same (w.still i l (omega arith) a)
 
       from_seen : (p : Reading × Got)
-          → Good n f Any w.seen w.y ptr end w.then_bytes two some inside w.held p lost (work.answers_left n f ptr read (Others lengths sum j)) → Leads (mk lost read (Others lengths sum j)) p
+          → Good n f (Asked lost read (Others lengths sum j) t) w.seen w.y ptr end w.then_bytes two some inside w.remained p lost (work.answers_left n f ptr read (Others lengths sum j))
+          → LeadsTo now end bytes Others_before t p.0 p.1
       from_seen p (inl g) =
-          let before = mk lost read (Others lengths sum j) in
-          subst (LeadsTo now end bytes before p.0) (sym g.more)
-          (subst (λ (r : Reading). LeadsTo now end bytes before r got.More) (sym g.is) (
-            record {
+          subst (LeadsTo now end bytes Others_before t p.0) (sym g.more)
+          (subst (λ (r : Reading). LeadsTo now end bytes Others_before t r got.More) (sym g.is)
+          (record {
+            work = record {
               seen = w.seen;
               y = w.y;
               then_bytes = w.then_bytes;
-              held = w.held;
+              remained = w.remained;
               same = w.same;
               so_far = g.so_far;
               fits = g.fits;
               still = still_later g.lost g.read g.phase g.fits;
-            },
-            g.less,
-          ))
+            };
+            fewer = g.less;
+            loses = g.known;
+          }))
       from_seen p (inr (inl e)) =
-          subst (LeadsTo now end bytes (mk lost read (Others lengths sum j)) p.0) (sym e) (same_range end ptr.offset ptr.len w.then_bytes bytes inside w.same)
+          subst (LeadsTo now end bytes Others_before t p.0) (sym e) (same_range end ptr.offset ptr.len w.then_bytes bytes inside w.same)
       from_seen p (inr (inr b)) =
-          subst (LeadsTo now end bytes (mk lost read (Others lengths sum j)) p.0) (sym b.is)
-          (two_named n ptr now end bytes (mk lost read (Others lengths sum j)) p.0 b.i b.j b.first b.second b.differ)
+          subst (LeadsTo now end bytes Others_before t p.0) (sym b.is)
+          (two_named now bytes Others_before t p.0 b.i b.j b.first b.second b.differ
+          (is_lost_at lost read (Others lengths sum j) t b.i b.first b.one) (is_lost_at lost read (Others lengths sum j) t b.j b.second b.other))
+
+      seen_on : AnswersWith Any w.seen w.y (asked Others_before) t → LeadsTo now end bytes Others_before t (fed Others_before t).0 (fed Others_before t).1
+      seen_on a =
+          let q = w.fits.1 in
+          let reached = q.reached in
+          elim (step n f (Asked lost read (Others lengths sum j) t) w.seen w.y ptr end w.then_bytes two some inside w.remained lost read (Others lengths sum j) t w.so_far w.fits (asked_alone w.seen w.y (asked Others_before) t a))
+          as (λ _. LeadsTo now end bytes Others_before t (fed Others_before t).0 (fed Others_before t).1) [
+            | inl good ↦ from_seen (fed Others_before t) good
+            | inr gone ↦
+                subst (LeadsTo now end bytes Others_before t (fed Others_before t).0) (sym gone.0)
+                (still_gone (standing n now ptr.log ptr.stripe j) (standing n w.seen ptr.log ptr.stripe j) (get_or lengths j 0) (w.still j q.index (omega arith) gone.1.0) gone.1.1)
+          ]
+
+      -- what is answered of the share that is asked
+      of_share : (o : Option Fragment) → standing n now ptr.log ptr.stripe j ≡ o
+          → (TellsOfFragment t → WasLooked n ptr w.y (Others lengths sum j))
+          → t ≡ found o ((ptr.offset + length read) % f) (min (min (ptr.offset + ptr.len - (ptr.offset + length read)) (f - (ptr.offset + length read) % f)) (get_or lengths j 0 - (ptr.offset + length read) % f))
+          → LeadsTo now end bytes Others_before t (fed Others_before t).0 (fed Others_before t).1
+      of_share None none looked is =
+          subst (LeadsTo now end bytes Others_before t (fed Others_before t).0) (sym (ap (λ (r : Response). (fed Others_before r).1) is)) none
+      of_share (Some fragment) there looked is =
+          let q = w.fits.1 in
+          let at = (ptr.offset + length read) % f in
+          let len = min (min (ptr.offset + ptr.len - (ptr.offset + length read)) (f - at)) (get_or lengths j 0 - at) in
+          let was = looked (subst TellsOfFragment (sym is) (tells_of fragment at len)) in
+          let c = covers_it n f Any w.seen w.y ptr end w.then_bytes two some inside w.remained lengths w.fits.0 q.stands q.looked in
+          let reached = q.reached in
+          elim (found_still (standing n now ptr.log ptr.stripe j) (standing n w.seen ptr.log ptr.stripe j) (get_or lengths j 0) at len (w.still j q.index (omega arith) was) (omega arith) (c.stored j q.index was))
+          as (λ _. LeadsTo now end bytes Others_before t (fed Others_before t).0 (fed Others_before t).1) [
+            | inl none ↦
+                subst (LeadsTo now end bytes Others_before t (fed Others_before t).0)
+                (sym (ap (λ (r : Response). (fed Others_before r).1) (is ∙ ap (λ (o : Option Fragment). found o at len) (sym there ∙ none)))) none
+            | inr same ↦ seen_on (inr (was, is ∙ ap (λ (o : Option Fragment). found o at len) (sym there) ∙ same))
+          ]
+
+      others_go_on : (TellsOfFragment t → WasLooked n ptr w.y (Others lengths sum j)) → AnswersWith Any now x (asked Others_before) t
+          → LeadsTo now end bytes Others_before t (fed Others_before t).0 (fed Others_before t).1
+      others_go_on looked (inl down) = seen_on (inl down)
+      others_go_on looked (inr is) = of_share (standing n now ptr.log ptr.stripe j) refl looked is.1
 
     abbrev Result : List Bool → List ℕ → Phase → Response → Type 0
-    Result lost read phase t = Leads (mk lost read phase) (fed (mk lost read phase) t)
-
-    others_go_on : (lost : List Bool) (read lengths sum : List ℕ) (j : ℕ) (t : Response) (w : ReadAtWork now end bytes (mk lost read (Others lengths sum j)))
-        → WasLooked n ptr w.y (Others lengths sum j) → AnswersWith Any now x (asked (mk lost read (Others lengths sum j))) t → Result lost read (Others lengths sum j) t
-    others_go_on lost read lengths sum j t w looked a =
-        let q = w.fits.1 in
-        let phase = Others lengths sum j in
-        let r = mk lost read phase in
-        let at = (ptr.offset + length read) % f in
-        let len = min (min (ptr.offset + ptr.len - (ptr.offset + length read)) (f - at)) (get_or lengths j 0 - at) in
-        let on = λ (b : AnswersWith Any w.seen w.y (asked r) t). from_seen lost read lengths sum j w (fed r t) (step n f Any w.seen w.y ptr end w.then_bytes two some inside w.held lost read phase t w.so_far w.fits b) in
-        elim a as (λ _. Result lost read phase t) [
-          | inl down ↦ on (inl down)
-          | inr is ↦
-              let c = covers_it n f Any w.seen w.y ptr end w.then_bytes two some inside w.held lengths w.fits.0 q.stands q.looked in
-              let reached = q.reached in
-              elim (found_still (standing n now ptr.log ptr.stripe j) (standing n w.seen ptr.log ptr.stripe j) (get_or lengths j 0) at len (w.still j q.index looked) (omega arith) (c.stored j q.index looked)) as (λ _. Result lost read phase t) [
-                | inl none ↦ subst (Result lost read phase) (sym (is.1 ∙ none)) tt
-                | inr was ↦ on (inr (looked, is.1 ∙ was))
-              ]
-        ]
+    Result lost read phase t = LeadsTo now end bytes (mk lost read phase) t (fed (mk lost read phase) t).0 (fed (mk lost read phase) t).1
 
     -- a fence that is newer ends the read
     old_ends : (lost : List Bool) (read : List ℕ) (phase : Phase) (generation : ℕ) → Result lost read phase (told.Refused (fault.OldGeneration generation))
-    old_ends lost read Direct generation = tt
-    old_ends lost read Lengths generation = tt
-    old_ends lost read (Others lengths sum j) generation = tt
+    old_ends lost read Direct generation = refl
+    old_ends lost read Lengths generation = refl
+    old_ends lost read (Others lengths sum j) generation = refl
 
     answered_on : (lost : List Bool) (read : List ℕ) (phase : Phase) (t : Response) (w : ReadAtWork now end bytes (mk lost read phase))
-        → WasLooked n ptr w.y phase → AnswersWith Any now x (asked (mk lost read phase)) t → Result lost read phase t
-    answered_on lost read Direct t w looked a =
-        from_now lost read Direct (fed (mk lost read Direct) t)
-        (step n f Any now x ptr end bytes two some inside held lost read Direct t (moved w.then_bytes bytes lost read w.same w.so_far) w.fits a)
-    answered_on lost read Lengths t w looked a =
-        from_now lost read Lengths (fed (mk lost read Lengths) t)
-        (step n f Any now x ptr end bytes two some inside held lost read Lengths t (moved w.then_bytes bytes lost read w.same w.so_far) w.fits a)
+        → (TellsOfFragment t → WasLooked n ptr w.y phase) → AnswersWith Any now x (asked (mk lost read phase)) t → Result lost read phase t
+    answered_on lost read Direct t w looked a = now_on lost read Direct t (moved w.then_bytes bytes lost read w.same w.so_far) w.fits a
+    answered_on lost read Lengths t w looked a = now_on lost read Lengths t (moved w.then_bytes bytes lost read w.same w.so_far) w.fits a
     answered_on lost read (Others lengths sum j) t w looked a = others_go_on lost read lengths sum j t w looked a
 
     pub goes_on : (lost : List Bool) (read : List ℕ) (phase : Phase) (t : Response) (w : ReadAtWork now end bytes (mk lost read phase))
-        → WasLooked n ptr w.y phase → MayAnswer now x (asked (mk lost read phase)) t → Result lost read phase t
+        → (TellsOfFragment t → WasLooked n ptr w.y phase) → MayAnswer now x (asked (mk lost read phase)) t → Result lost read phase t
     goes_on lost read phase t w looked (inl a) = answered_on lost read phase t w looked a
     goes_on lost read phase t w looked (inr old) = subst (Result lost read phase) (sym old.1) (old_ends lost read phase old.0)
+
+  -- of a stripe that is held, only another share may be gone
+  module _ (now : Maps) (x : Option ServerId) (bytes : List ℕ) (held : StripeHolds (view_of n f now x) ptr.log ptr.stripe end bytes) where
+    rest : StripeRemains (view_of n f now x) ptr.log ptr.stripe end bytes
+    rest = held_remains (n - 1) f (standing n now ptr.log ptr.stripe) (away_at n x ptr.log ptr.stripe) end bytes held
+
+    good_stays : (lost : List Bool) (m : ℕ) (p : Reading × Got) → Good n f Any now x ptr end bytes two some inside rest p lost m → p.1 ≡ got.Gone → ⊥
+    good_stays lost m p (inl g) gone = not_gone p.1 got.More g.more refl gone
+    good_stays lost m p (inr (inl e)) gone = not_gone p.1 (got.Bytes (take ptr.len (drop ptr.offset bytes))) e refl gone
+    good_stays lost m p (inr (inr b)) gone =
+        not_gone p.1 (names_two (At b.i) (At b.j)) b.is
+        (cond_both (ltb (At b.i).0 (At b.j).0) (got.Unreachable (At b.i) (At b.j)) (got.Unreachable (At b.j) (At b.i)) (λ g. is_gone g ≡ false) (λ _. refl) (λ _. refl)) gone
+
+    old_stays : (lost : List Bool) (read : List ℕ) (phase : Phase) (generation : ℕ) → (fed (mk lost read phase) (told.Refused (fault.OldGeneration generation))).1 ≡ got.Gone → ⊥
+    old_stays lost read Direct generation gone = false≢true (ap is_gone gone)
+    old_stays lost read Lengths generation gone = false≢true (ap is_gone gone)
+    old_stays lost read (Others lengths sum j) generation gone = false≢true (ap is_gone gone)
+
+    none_gone : (lost : List Bool) (read : List ℕ) (phase : Phase) (t : Response) → work.SoFar n f ptr bytes lost read → work.PhaseFits n f ptr now x bytes lost read phase
+        → (LacksIt n f Any now x ptr end bytes two some inside rest (asked (mk lost read phase)) → ⊥)
+        → MayAnswer now x (asked (mk lost read phase)) t → (fed (mk lost read phase) t).1 ≡ got.Gone → ⊥
+    none_gone lost read phase t so fits there (inl a) gone = elim (step n f Any now x ptr end bytes two some inside rest lost read phase t so fits a) as (λ _. ⊥) [
+      | inl good ↦ good_stays lost (work.answers_left n f ptr read phase) (fed (mk lost read phase) t) good gone
+      | inr lacks ↦ there lacks.1
+    ]
+    none_gone lost read phase t so fits there (inr old) gone = old_stays lost read phase old.0 (ap (λ (r : Response). (fed (mk lost read phase) r).1) (sym old.1) ∙ gone)
+
+    pub gone_other : (lost : List Bool) (read : List ℕ) (phase : Phase) (t : Response) → ReadAtWork now end bytes (mk lost read phase)
+        → MayAnswer now x (asked (mk lost read phase)) t → (fed (mk lost read phase) t).1 ≡ got.Gone → AsksOther phase
+    gone_other lost read Direct t w a gone =
+        none_gone lost read Direct t (moved w.then_bytes bytes lost read w.same w.so_far) w.fits (direct_is_there n f Any now x ptr end bytes two some inside rest held lost read) a gone
+    gone_other lost read Lengths t w a gone =
+        none_gone lost read Lengths t (moved w.then_bytes bytes lost read w.same w.so_far) w.fits (parity_is_there n f Any now x ptr end bytes two some inside rest held lost read) a gone
+    gone_other lost read (Others lengths sum j) t w a gone = tt
 
   -- a read at work stays so over other maps and bytes
   module _ (now new : Maps) (bytes other : List ℕ) (same : take end bytes ≡ take end other) where
     stays_still : (lost : List Bool) (read : List ℕ) (phase : Phase) (w : ReadAtWork now end bytes (mk lost read phase))
-        → ((j : ℕ) → j < n - 1 → away_at n w.y ptr.log ptr.stripe j ≡ false → IsGoneOrLonger (standing n new ptr.log ptr.stripe j) (standing n now ptr.log ptr.stripe j))
-        → StillStand n ptr new w.seen w.y phase
+        → StillGrow n ptr now new w.y phase → StillStand n ptr new w.seen w.y phase
     stays_still lost read Direct w longer = tt
     stays_still lost read Lengths w longer = tt
-    stays_still lost read (Others lengths sum k) w longer = λ j l a.
+    stays_still lost read (Others lengths sum k) w longer = λ j l covers a.
         let q = w.fits.1 in
-        let c = covers_it n f Any w.seen w.y ptr end w.then_bytes two some inside w.held lengths w.fits.0 q.stands q.looked in
+        let c = covers_it n f Any w.seen w.y ptr end w.then_bytes two some inside w.remained lengths w.fits.0 q.stands q.looked in
         still_longer (standing n new ptr.log ptr.stripe j) (standing n now ptr.log ptr.stripe j) (standing n w.seen ptr.log ptr.stripe j) (get_or lengths j 0)
-        (longer j l a) (w.still j l a) (c.stored j l a)
+        (longer j l covers a) (w.still j l covers a) (c.stored j l a)
 
     pub stays : (lost : List Bool) (read : List ℕ) (phase : Phase) (w : ReadAtWork now end bytes (mk lost read phase))
-        → ((j : ℕ) → j < n - 1 → away_at n w.y ptr.log ptr.stripe j ≡ false → IsGoneOrLonger (standing n new ptr.log ptr.stripe j) (standing n now ptr.log ptr.stripe j))
-        → ReadAtWork new end other (mk lost read phase)
+        → StillGrow n ptr now new w.y phase → ReadAtWork new end other (mk lost read phase)
     stays lost read phase w longer = record {
       seen = w.seen;
       y = w.y;
       then_bytes = w.then_bytes;
-      held = w.held;
+      remained = w.remained;
       same = w.same ∙ same;
       so_far = w.so_far;
       fits = w.fits;

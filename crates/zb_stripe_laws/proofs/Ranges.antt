@@ -1,5 +1,5 @@
 -- Ranges of shares, and what servers answer for them.
-use Rattle.std.proofs.Common.{◌≡◌, ℕ, ◌+◌, ◌-◌, ◌*◌, ◌/◌, ◌%◌, ◌<◌, ◌≤◌, Bool, true, cond, List, ◌++◌, length, take, drop, get_or, Option, Some, None, refl, sym, ap, ◌∙◌, inl, inr, arith}
+use Rattle.std.proofs.Common.{◌≡◌, ◌⊎◌, ℕ, ◌+◌, ◌-◌, ◌*◌, ◌/◌, ◌%◌, ◌<◌, ◌≤◌, Bool, true, cond, List, ◌++◌, length, take, drop, get_or, Option, Some, None, refl, sym, ap, ◌∙◌, inl, inr, arith}
 use Rattle.std.specs.Prelude.{replicate}
 use Rattle.std.proofs.lemmas.Bool.{cases_lt, le-leb, eqb-true, false≢true}
 use Rattle.std.proofs.lemmas.Nat.{div-add-mod', mod_below}
@@ -10,7 +10,7 @@ use Rattle.zb_holding.specs.Fragments.{share_fragment, parity_fragment}
 use Rattle.zb_types.specs.declared.requests.Response.TheVariants as told
 use Rattle.zb_types.specs.declared.requests.StoreFault.TheVariants as fault
 use Rattle.zb_holding.specs.Placing.{share_of}
-use Rattle.zb_holding.specs.Holding.{share_bytes, Begins, is_away}
+use Rattle.zb_holding.specs.Holding.{share_bytes, Begins, IsGoneOrReaches, is_away}
 use Rattle.zb_holding.specs.Carrying.{found}
 
 -- a range within one share is that range of the stripe
@@ -31,6 +31,13 @@ found_in_share (Some (share_fragment old)) bytes place len b some le =
     ∙ ap (λ (z : List ℕ). told.Bytes (take len z)) (ap (drop place) b.1 ∙ ap (λ (m : ℕ). drop place (take m bytes)) (omega arith) ∙ drop-take place (length old - place) bytes)
     ∙ ap told.Bytes (take-take len (length old - place) (drop place bytes) (omega arith))
 found_in_share (Some (parity_fragment lengths parity)) bytes place len b some le = absurd b
+
+-- what a server answers for a range of a share that is gone, or begins as it should and reaches past the range
+pub found_or_none : (stands : Option Fragment) (bytes : List ℕ) (place len reach : ℕ) → Begins stands bytes → IsGoneOrReaches reach stands → 0 < len → place + len ≤ reach
+    → ((stands ≡ None) × (found stands place len ≡ told.Refused fault.NoFragment)) ⊎ (found stands place len ≡ told.Bytes (take len (drop place bytes)))
+found_or_none None bytes place len reach b r some le = inl (refl, refl)
+found_or_none (Some (share_fragment old)) bytes place len reach b r some le = inr (found_in_share (Some (share_fragment old)) bytes place len b some (omega arith))
+found_or_none (Some (parity_fragment lengths parity)) bytes place len reach b r some le = absurd b
 
 -- the range of a parity, zeros past its end
 abbrev pub parity_range : List ℕ → ℕ → ℕ → List ℕ

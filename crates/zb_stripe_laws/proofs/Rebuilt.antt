@@ -6,7 +6,7 @@ use Rattle.std.proofs.lemmas.List.FromFn.{length-map-range_with_len, get_or-map-
 use Rattle.zb_holding.specs.Fragments.{Fragment, share_fragment, parity_fragment}
 use Rattle.zb_holding.specs.Placing.{share_of}
 use Rattle.zb_holding.specs.Exclusive.{xor_at, list_at}
-use Rattle.zb_holding.specs.Holding.{share_bytes, Begins, covered, CoversShares, ParityHolds, ViewHolds}
+use Rattle.zb_holding.specs.Holding.{share_bytes, Begins, covered, CoversShares, ParityHolds, FragmentsHold}
 use Rattle.zb_holding.proofs.Exclusives.{xor_same, xor_all, xor_others}
 use Rattle.zb_parity.specs.Rebuilding.{Rebuilds}
 use Rattle.zb_stripe_laws.specs.Restoring.{cut_to, others_of}
@@ -46,7 +46,7 @@ cut_covers (Some (share_fragment s)) bytes n b le = ap (take n) b.1 ∙ take-tak
 cut_covers (Some (parity_fragment lengths parity)) bytes n b le = absurd b
 
 module _ (m f : ℕ) (stands : ℕ → Option Fragment) (away : ℕ → Bool) (end : ℕ) (bytes : List ℕ) (j : ℕ) (lengths parity rebuilt : List ℕ)
-    (h : ViewHolds m f stands away end bytes) (only : (k : ℕ) → k ≢ j → away k ≡ false) (low : j < m)
+    (h : FragmentsHold m f stands away end bytes) (only : (k : ℕ) → k ≢ j → away k ≡ false) (low : j < m)
     (there : stands m ≡ Some (parity_fragment lengths parity)) where
   covers : CoversShares m f stands away end bytes lengths parity
   covers = subst (ParityHolds m f stands away end bytes) there (h.parity (only m (λ e. omega arith)))

@@ -4,7 +4,7 @@ use Rattle.std.specs.Prelude.{slice_index}
 use Rattle.zb_holding.specs.Fragments.{Fragment}
 use Rattle.zb_holding.specs.Fragments.{share_fragment, parity_fragment}
 use Rattle.zb_holding.specs.Placing.{share_of, share_length}
-use Rattle.zb_holding.specs.Holding.{share_bytes, Begins, ParityHolds, ViewHolds}
+use Rattle.zb_holding.specs.Holding.{share_bytes, Begins, ParityHolds, FragmentsHold}
 
 module _ (m f : ℕ) (stands stands' : ℕ → Option Fragment) (away : ℕ → Bool) (end : ℕ) (bytes : List ℕ) (same : (k : ℕ) → away k ≡ false → stands' k ≡ stands k) where
   seen_parity : (p : Option Fragment) → ParityHolds m f stands away end bytes p → ParityHolds m f stands' away end bytes p
@@ -20,7 +20,7 @@ module _ (m f : ℕ) (stands stands' : ℕ → Option Fragment) (away : ℕ → 
         longest = c.longest;
       }
 
-  pub holds_seen : ViewHolds m f stands away end bytes → ViewHolds m f stands' away end bytes
+  pub holds_seen : FragmentsHold m f stands away end bytes → FragmentsHold m f stands' away end bytes
   holds_seen h =
       record {
         whole = h.whole;

@@ -1,5 +1,5 @@
 -- A part of a flush, request by request.
-use Rattle.std.proofs.Common.{◌≡◌, ◌≢◌, ◌⊎◌, ℕ, zero, suc, ◌+◌, ◌-◌, ◌<◌, ◌≤◌, Bool, false, List, [], ◌∷◌, ◌++◌, length, take, Option, Some, refl, sym, ap, ◌∙◌, subst, inl, inr, arith}
+use Rattle.std.proofs.Common.{◌≡◌, ◌≢◌, ◌⊎◌, ℕ, zero, suc, ◌+◌, ◌-◌, ◌*◌, ◌<◌, ◌≤◌, Bool, false, List, [], ◌∷◌, ◌++◌, length, take, Option, Some, refl, sym, ap, ◌∙◌, subst, inl, inr, arith}
 use Rattle.std.specs.Prelude.{◌&&◌, ◌==◌, if◌then◌else◌, slice_get}
 use Rattle.std.specs.List.{flat_map}
 use Rattle.std.proofs.lemmas.Bool.{and_right}
@@ -12,7 +12,7 @@ use Rattle.zb_types.specs.declared.nodes.Class.{Class}
 use Rattle.zb_types.specs.declared.requests.Request.{Request}
 use Rattle.zb_holding.specs.Fragments.{Fragment}
 use Rattle.zb_holding.specs.Placing.{frag_id, server_of, share_of, share_length}
-use Rattle.zb_holding.specs.Holding.{Maps, Begins, StripeHolds, standing, away_at}
+use Rattle.zb_holding.specs.Holding.{Maps, Begins, StripeHolds, standing, away_at, view_of}
 use Rattle.zb_holding.specs.Carrying.{stands_after, is_about, carried, carried_all}
 use Rattle.zb_stripe.specs.declared.flush.Part.{Part}
 use Rattle.zb_stripe.specs.Writing.{part_requests, IsWritable}
@@ -38,12 +38,12 @@ module _ (n f : ℕ) (out : Option ServerId) (class : Class) (log : LogId) (part
   abbrev pub Requests : List (ServerId × Request)
   Requests = part_requests n f out class log part
 
-  pub at_work_begins : (maps : Maps) (x : Option ServerId) → MayBegin n f maps x log part → PartAtWork n f maps x out class log part 0
+  pub at_work_begins : (maps : Maps) (x : Option ServerId) → MayBegin (view_of n f maps x) log part → PartAtWork (view_of n f maps x) out class log part 0
   at_work_begins maps x b = record { start = maps; begins = b; now = λ k away. refl }
 
   -- the next request is carried out
   pub at_work_next : (maps : Maps) (x : Option ServerId) (i : ℕ) (r : ServerId × Request) → slice_get Requests i ≡ Some r
-      → PartAtWork n f maps x out class log part i → PartAtWork n f (carried maps r) x out class log part (suc i)
+      → PartAtWork (view_of n f maps x) out class log part i → PartAtWork (view_of n f (carried maps r) x) out class log part (suc i)
   at_work_next maps x i r is w = record {
     start = w.start;
     begins = w.begins;
@@ -54,20 +54,20 @@ module _ (n f : ℕ) (out : Option ServerId) (class : Class) (log : LogId) (part
 
   -- whatever else changes, the part stays at work where its stripe is as before
   pub at_work_stays : (maps new : Maps) (x : Option ServerId) (i : ℕ) → ((k : ℕ) → away_at n x log part.stripe k ≡ false → standing n new log part.stripe k ≡ standing n maps log part.stripe k)
-      → PartAtWork n f maps x out class log part i → PartAtWork n f new x out class log part i
+      → PartAtWork (view_of n f maps x) out class log part i → PartAtWork (view_of n f new x) out class log part i
   at_work_stays maps new x i same w = record { start = w.start; begins = w.begins; now = λ k away. same k away ∙ w.now k away }
 
   seen : (maps start : Maps) (x : Option ServerId) (end i : ℕ)
       → ((k : ℕ) → away_at n x log part.stripe k ≡ false → standing n maps log part.stripe k ≡ standing n (carried_all start (take i Requests)) log part.stripe k)
-      → StripeHolds n f (carried_all start (take i Requests)) x log part.stripe end part.bytes → StripeHolds n f maps x log part.stripe end part.bytes
+      → StripeHolds (view_of n f (carried_all start (take i Requests)) x) log part.stripe end part.bytes → StripeHolds (view_of n f maps x) log part.stripe end part.bytes
   seen maps start x end i now h =
       holds_seen (n - 1) f (standing n (carried_all start (take i Requests)) log part.stripe) (standing n maps log part.stripe) (away_at n x log part.stripe) end part.bytes now h
 
-  module _ (fits : IsWritable n f part) where
+  module _ (fits : IsWritable ((n - 1) * f) part) where
     -- what is committed stands with the part's bytes
     pub at_work_holds : (maps : Maps) (x : Option ServerId) (end i : ℕ) → IsSpared out x → 0 < end → end ≤ part.begin
-        → PartAtWork n f maps x out class log part i → StripeHolds n f maps x log part.stripe end part.bytes
-    at_work_holds maps x end i spared some le w = elim w.begins as (λ _. StripeHolds n f maps x log part.stripe end part.bytes) [
+        → PartAtWork (view_of n f maps x) out class log part i → StripeHolds (view_of n f maps x) log part.stripe end part.bytes
+    at_work_holds maps x end i spared some le w = elim w.begins as (λ _. StripeHolds (view_of n f maps x) log part.stripe end part.bytes) [
       | inl b ↦
           seen maps w.start x end i w.now
           (each_law n f out x class log part spared fits w.start end le
@@ -76,20 +76,20 @@ module _ (n f : ℕ) (out : Option ServerId) (class : Class) (log : LogId) (part
     ]
 
     -- a part whose requests were all carried out stands whole
-    pub at_work_ends : (maps : Maps) (x : Option ServerId) (i : ℕ) → IsSpared out x → length Requests ≤ i → PartAtWork n f maps x out class log part i
-        → StripeHolds n f maps x log part.stripe (length part.bytes) part.bytes
+    pub at_work_ends : (maps : Maps) (x : Option ServerId) (i : ℕ) → IsSpared out x → length Requests ≤ i → PartAtWork (view_of n f maps x) out class log part i
+        → StripeHolds (view_of n f maps x) log part.stripe (length part.bytes) part.bytes
     at_work_ends maps x i spared le w =
-        let all = λ (h : StripeHolds n f (carried_all w.start Requests) x log part.stripe (length part.bytes) part.bytes).
+        let all = λ (h : StripeHolds (view_of n f (carried_all w.start Requests) x) log part.stripe (length part.bytes) part.bytes).
         seen maps w.start x (length part.bytes) i w.now
-        (subst (λ (rs : List (ServerId × Request)). StripeHolds n f (carried_all w.start rs) x log part.stripe (length part.bytes) part.bytes) (sym (take_all i Requests le)) h) in
-        elim w.begins as (λ _. StripeHolds n f maps x log part.stripe (length part.bytes) part.bytes) [
+        (subst (λ (rs : List (ServerId × Request)). StripeHolds (view_of n f (carried_all w.start rs) x) log part.stripe (length part.bytes) part.bytes) (sym (take_all i Requests le)) h) in
+        elim w.begins as (λ _. StripeHolds (view_of n f maps x) log part.stripe (length part.bytes) part.bytes) [
           | inl b ↦ all (whole_law n f out x class log part spared fits w.start part.begin b.holds b.stands)
           | inr b ↦ all (fresh_law n f out x class log part spared fits w.start b.begin b.unwritten)
         ]
 
 -- what stands as a part begins is the beginning of its shares
 module _ (n f : ℕ) (x : Option ServerId) (log : LogId) (part : Part) (start : Maps) where
-  begins_so : MayBegin n f start x log part → (k : ℕ) → k < n - 1 → away_at n x log part.stripe k ≡ false
+  begins_so : MayBegin (view_of n f start x) log part → (k : ℕ) → k < n - 1 → away_at n x log part.stripe k ≡ false
       → HasBytes (standing n start log part.stripe k) (share_length f part.begin k) × Begins (standing n start log part.stripe k) (share_of f part.bytes k)
   begins_so (inl b) k l a = (
     b.stands k l a,
@@ -103,9 +103,9 @@ module _ (n f : ℕ) (x : Option ServerId) (log : LogId) (part : Part) (start : 
         subst (λ o. Begins o (share_of f part.bytes k)) (sym none) tt,
       )
 
-module _ (n f : ℕ) (x out : Option ServerId) (class : Class) (log : LogId) (part : Part) (spared : IsSpared out x) (fits : IsWritable n f part) where
+module _ (n f : ℕ) (x out : Option ServerId) (class : Class) (log : LogId) (part : Part) (spared : IsSpared out x) (fits : IsWritable ((n - 1) * f) part) where
   -- before the last of its requests, a part's stripe is at work
-  pub between_requests : (maps : Maps) (i : ℕ) (w : PartAtWork n f maps x out class log part i) → i < length (part_requests n f out class log part)
+  pub between_requests : (maps : Maps) (i : ℕ) (w : PartAtWork (view_of n f maps x) out class log part i) → i < length (part_requests n f out class log part)
       → (j : ℕ) × (j ≤ n - 1) × StripeAtWork f part.bytes (away_at n x log part.stripe) (standing n w.start log part.stripe) (standing n maps log part.stripe) j
   between_requests maps i w below =
       let rs = part_requests n f out class log part in
@@ -205,8 +205,8 @@ module _ (n f : ℕ) (out : Option ServerId) (class : Class) (log : LogId) where
 
   -- each part of a plan is at work as its own requests are carried out
   pub parts_at_work : (maps : Maps) (x : Option ServerId) (before after : List Part) (part : Part) (i : ℕ) → AreElsewhere part.stripe before → AreElsewhere part.stripe after
-      → MayBegin n f maps x log part
-      → PartAtWork n f (carried_all maps (take i (All_requests (before ++ part ∷ after)))) x out class log part (i - length (All_requests before))
+      → MayBegin (view_of n f maps x) log part
+      → PartAtWork (view_of n f (carried_all maps (take i (All_requests (before ++ part ∷ after)))) x) out class log part (i - length (All_requests before))
   parts_at_work maps x before after part i a b begins = record { start = maps; begins = begins; now = λ k away. others_leave maps before after part i k a b }
 
   -- names of stripes of none of the parts keep what they had

@@ -6,7 +6,7 @@ use Rattle.zb_types.specs.declared.ids.FragId.{FragId}
 use Rattle.zb_types.specs.declared.nodes.Class.{Class}
 use Rattle.zb_holding.specs.Fragments.{Fragment, share_fragment, parity_fragment}
 use Rattle.zb_holding.specs.Placing.{share_length, share_of}
-use Rattle.zb_holding.specs.Holding.{Maps, StripeHolds, standing, away_at}
+use Rattle.zb_holding.specs.Holding.{Maps, View, with_maps, StripeHolds, standing, away_at}
 use Rattle.zb_holding.specs.Carrying.{carried_all}
 use Rattle.zb_stripe.specs.declared.flush.Part.{Part}
 use Rattle.zb_stripe.specs.Writing.{part_requests}
@@ -22,16 +22,16 @@ HasBytes None n = n ≡ 0
 HasBytes (Some (share_fragment bytes)) n = (0 < n) × (length bytes ≡ n)
 HasBytes (Some (parity_fragment lengths bytes)) n = ⊥
 
--- each share on the servers, x not looked at, ends where the stripe's first bytes end
-abbrev pub StandsUpTo : ℕ → ℕ → Maps → Option ServerId → LogId → ℕ → ℕ → Type 0
-StandsUpTo n f maps x log stripe begin =
-    (k : ℕ) → k < n - 1 → away_at n x log stripe k ≡ false
-    → HasBytes (standing n maps log stripe k) (share_length f begin k)
+-- each share in view ends where the stripe's first bytes end
+abbrev pub StandsUpTo : View → LogId → ℕ → ℕ → Type 0
+StandsUpTo v log stripe begin =
+    (k : ℕ) → k < v.servers - 1 → away_at v.servers v.away log stripe k ≡ false
+    → HasBytes (standing v.servers v.maps log stripe k) (share_length v.fragment begin k)
 
--- no fragment of the stripe stands on the servers, x not looked at
-abbrev pub IsUnwritten : ℕ → Maps → Option ServerId → LogId → ℕ → Type 0
-IsUnwritten n maps x log stripe = (k : ℕ) → k < n → away_at n x log stripe k ≡ false
-    → standing n maps log stripe k ≡ None
+-- no fragment of the stripe stands in view
+abbrev pub IsUnwritten : View → LogId → ℕ → Type 0
+IsUnwritten v log stripe = (k : ℕ) → k < v.servers → away_at v.servers v.away log stripe k ≡ false
+    → standing v.servers v.maps log stripe k ≡ None
 
 -- the name is one of another stripe
 abbrev pub IsElsewhere : FragId → LogId → ℕ → Type 0
@@ -51,26 +51,29 @@ pub record StripeAtWork (f : ℕ) (bytes : List ℕ) (away : ℕ → Bool) (old 
   pub left : (k : ℕ) → j ≤ k → away k ≡ false → new k ≡ old k
 
 -- a part begins behind bytes that stand exactly
-pub record GoesOn (n f : ℕ) (maps : Maps) (x : Option ServerId) (log : LogId) (part : Part) : Type 0 where
-  pub holds : StripeHolds n f maps x log part.stripe part.begin (take part.begin part.bytes)
-  pub stands : StandsUpTo n f maps x log part.stripe part.begin
+pub record GoesOn (v : View) (log : LogId) (part : Part) : Type 0 where
+  pub holds : StripeHolds v log part.stripe part.begin (take part.begin part.bytes)
+  pub stands : StandsUpTo v log part.stripe part.begin
 
 -- a part is the first of its stripe, of which nothing stands
-pub record IsFirst (n : ℕ) (maps : Maps) (x : Option ServerId) (log : LogId) (part : Part) : Type 0 where
+pub record IsFirst (v : View) (log : LogId) (part : Part) : Type 0 where
   pub begin : part.begin ≡ 0
-  pub unwritten : IsUnwritten n maps x log part.stripe
+  pub unwritten : IsUnwritten v log part.stripe
 
 -- where a part may begin
-abbrev pub MayBegin : ℕ → ℕ → Maps → Option ServerId → LogId → Part → Type 0
-MayBegin n f maps x log part = GoesOn n f maps x log part ⊎ IsFirst n maps x log part
+abbrev pub MayBegin : View → LogId → Part → Type 0
+MayBegin v log part = GoesOn v log part ⊎ IsFirst v log part
+
+-- the fragments of a stripe that are looked at stand as in these other maps
+abbrev pub StandsAsIn : View → Maps → LogId → ℕ → Type 0
+StandsAsIn v maps log stripe = (k : ℕ) → away_at v.servers v.away log stripe k ≡ false
+    → standing v.servers v.maps log stripe k ≡ standing v.servers maps log stripe k
 
 -- the part's stripe is as its first i requests left it, since the part began
-pub record PartAtWork (n f : ℕ) (maps : Maps) (x out : Option ServerId) (class : Class) (log : LogId) (part : Part) (i : ℕ) : Type 0 where
+pub record PartAtWork (v : View) (out : Option ServerId) (class : Class) (log : LogId) (part : Part) (i : ℕ) : Type 0 where
   pub start : Maps
-  pub begins : MayBegin n f start x log part
-  pub now : (k : ℕ) → away_at n x log part.stripe k ≡ false
-      → standing n maps log part.stripe k
-      ≡ standing n (carried_all start (take i (part_requests n f out class log part))) log part.stripe k
+  pub begins : MayBegin (with_maps v start) log part
+  pub now : StandsAsIn v (carried_all start (take i (part_requests v.servers v.fragment out class log part))) log part.stripe
 
 -- none of these parts is of this stripe
 abbrev pub AreElsewhere : ℕ → List Part → Type 0

@@ -9,13 +9,13 @@ use Rattle.zb_types.specs.declared.requests.Response.TheVariants as told
 use Rattle.zb_types.specs.declared.requests.StoreFault.TheVariants as fault
 use Rattle.zb_holding.specs.Fragments.{Fragment, share_fragment, parity_fragment}
 use Rattle.zb_holding.specs.Exclusive.{xor_at}
-use Rattle.zb_holding.specs.Holding.{Maps, StripeHolds, covered, is_away, standing, away_at}
+use Rattle.zb_holding.specs.Holding.{Maps, view_of, StripeRemains, covered, is_away, standing, away_at}
 use Rattle.zb_holding.specs.Carrying.{found}
 use Rattle.zb_stripe.specs.declared.read.Got.{Got}
 use Rattle.zb_stripe.specs.declared.read.Got.TheVariants as got
 use Rattle.zb_stripe.specs.declared.progress.Phase.{Phase}
 use Rattle.zb_stripe.specs.declared.progress.Phase.TheVariants.{Direct, Lengths, Others}
-use Rattle.zb_stripe.specs.Reading.{Reading, asked, fed, is_more}
+use Rattle.zb_stripe.specs.Reading.{Reading, server_at, is_lost, asked, fed, is_more}
 
 -- some lists but one
 abbrev pub all_but : (ℕ → List ℕ) → ℕ → ℕ → List ℕ
@@ -103,32 +103,48 @@ IsGoneOrLonger None before = Unit {0}
 IsGoneOrLonger (Some (share_fragment now)) (Some (share_fragment before)) = before ≡ take (length before) now
 IsGoneOrLonger now before = ⊥
 
--- each share that was looked at is gone now, or still begins with what the parity covered of it
+-- each share that was looked at, and of which the parity covered bytes, is gone now or still begins with these
 abbrev pub StillStand : ℕ → Ptr → Maps → Maps → Option ServerId → Phase → Type 0
 StillStand n ptr now seen y Direct = Unit {0}
 StillStand n ptr now seen y Lengths = Unit {0}
-StillStand n ptr now seen y (Others lengths sum k) = (j : ℕ) → j < n - 1
+StillStand n ptr now seen y (Others lengths sum k) = (j : ℕ) → j < n - 1 → 0 < slice_index lengths j
     → away_at n y ptr.log ptr.stripe j ≡ false
     → IsGoneOrSame (standing n now ptr.log ptr.stripe j) (standing n seen ptr.log ptr.stripe j) (slice_index lengths j)
 
--- A read at work, whose stripe is committed up to `end` with the same bytes throughout: the maps in which its
--- range's parity was seen held the stripe, what it has is theirs, and what it still asks for is gone or the same.
+-- each share that a read may still ask for, from old maps to new ones, is gone or has what it had and perhaps more
+abbrev pub StillGrow : ℕ → Ptr → Maps → Maps → Option ServerId → Phase → Type 0
+StillGrow n ptr old new y Direct = Unit {0}
+StillGrow n ptr old new y Lengths = Unit {0}
+StillGrow n ptr old new y (Others lengths sum k) = (j : ℕ) → j < n - 1 → 0 < slice_index lengths j
+    → away_at n y ptr.log ptr.stripe j ≡ false
+    → IsGoneOrLonger (standing n new ptr.log ptr.stripe j) (standing n old ptr.log ptr.stripe j)
+
+-- A read at work, whose stripe is committed up to `end` with the same bytes throughout: what remained of the stripe in
+-- the maps in which its range's parity was seen is of these bytes, what it has is theirs, and what it still asks for is
+-- gone or the same.
 pub record ReadAtWork (now : Maps) (end : ℕ) (bytes : List ℕ) (r : Reading) : Type 0 where
   pub seen : Maps
   pub y : Option ServerId
   pub then_bytes : List ℕ
-  pub held : StripeHolds r.servers r.fragment seen y r.ptr.log r.ptr.stripe end then_bytes
+  pub remained : StripeRemains (view_of r.servers r.fragment seen y) r.ptr.log r.ptr.stripe end then_bytes
   pub same : take end then_bytes ≡ take end bytes
   pub so_far : SoFar r.servers r.fragment r.ptr then_bytes r.lost r.read
   pub fits : PhaseFits r.servers r.fragment r.ptr seen y then_bytes r.lost r.read r.phase
   pub still : StillStand r.servers r.ptr now seen y r.phase
 
--- The share that is asked was looked at when the parity was seen. A server that wasn't doesn't answer later: the plan
--- has it as lost, or a fence refuses the read.
+-- The share that is asked was looked at when the parity was seen. A server that wasn't tells of no fragment later: the
+-- plan has it as lost, or a fence refuses the read.
 abbrev pub WasLooked : ℕ → Ptr → Option ServerId → Phase → Type 0
 WasLooked n ptr y Direct = Unit {0}
 WasLooked n ptr y Lengths = Unit {0}
 WasLooked n ptr y (Others lengths sum j) = away_at n y ptr.log ptr.stripe j ≡ false
+
+-- an answer that tells of a fragment that is there
+abbrev pub TellsOfFragment : Response → Type 0
+TellsOfFragment (told.Bytes bytes) = Unit {0}
+TellsOfFragment (told.Parity lengths bytes) = Unit {0}
+TellsOfFragment (told.Refused (fault.Short len)) = Unit {0}
+TellsOfFragment response = ⊥
 
 -- a server that is down or blank
 abbrev pub IsNotThere : Response → Type 0
@@ -161,11 +177,46 @@ MayAnswer maps x request response =
     AnswersWith (λ server. Unit {0}) maps x request response ⊎ ((generation : ℕ) × (response
     ≡ told.Refused (fault.OldGeneration generation)))
 
--- what an answer leads to: the read goes on and has fewer requests before it, or it ends
-abbrev pub LeadsTo : Maps → ℕ → List ℕ → Reading → Reading → Got → Type 0
-LeadsTo now end bytes before r got.More = ReadAtWork now end bytes r
-    × (answers_left before.servers before.fragment before.ptr r.read r.phase < answers_left before.servers before.fragment before.ptr before.read before.phase)
-LeadsTo now end bytes before r (got.Bytes found) = found ≡ take before.ptr.len (drop before.ptr.offset bytes)
-LeadsTo now end bytes before r (got.Unreachable a b) = a.0 < b.0
-LeadsTo now end bytes before r got.Gone = Unit {0}
-LeadsTo now end bytes before r (got.Old generation) = Unit {0}
+-- the fragment that is asked for isn't there
+abbrev pub LacksAsked : Maps → Option (ServerId × Request) → Type 0
+LacksAsked maps (Some (server, ask.Retrieve id place len)) = maps server id ≡ None
+LacksAsked maps request = ⊥
+
+-- this server was asked, and is down or blank
+abbrev pub DidNotAnswer : Option (ServerId × Request) → Response → ServerId → Type 0
+DidNotAnswer None response server = ⊥
+DidNotAnswer (Some asked) response server = (server ≡ asked.0) × IsNotThere response
+
+-- a server of the stripe that was known to be lost, or was asked now and is down or blank
+pub record IsLost (r : Reading) (response : Response) (server : ServerId) : Type 0 where
+  pub index : ℕ
+  pub below : index < r.servers
+  pub at : server ≡ server_at r index
+  pub lost : (is_lost r index ≡ true) ⊎ DidNotAnswer (asked r) response server
+
+-- a read knows no server as lost but those that were known before, and the one that was asked and is down or blank
+abbrev pub LosesAsked : Reading → Response → Reading → Type 0
+LosesAsked before response r = (k : ℕ) → k < before.servers → is_lost r k ≡ true
+    → (is_lost before k ≡ true) ⊎ DidNotAnswer (asked before) response (server_at before k)
+
+-- a read goes on at work, with fewer answers to come
+pub record LeadsOn (now : Maps) (end : ℕ) (bytes : List ℕ) (before : Reading) (response : Response) (r : Reading) : Type 0 where
+  pub work : ReadAtWork now end bytes r
+  pub fewer : answers_left before.servers before.fragment before.ptr r.read r.phase
+      < answers_left before.servers before.fragment before.ptr before.read before.phase
+  pub loses : LosesAsked before response r
+
+-- what an answer leads to: the read goes on, or it ends with the stripe's bytes, with two servers that are lost, with a
+-- fragment that isn't there, or with a newer fence
+abbrev pub LeadsTo : Maps → ℕ → List ℕ → Reading → Response → Reading → Got → Type 0
+LeadsTo now end bytes before response r got.More = LeadsOn now end bytes before response r
+LeadsTo now end bytes before response r (got.Bytes found) = found ≡ take before.ptr.len (drop before.ptr.offset bytes)
+LeadsTo now end bytes before response r (got.Unreachable a b) = (a.0 < b.0) × IsLost before response a × IsLost before response b
+LeadsTo now end bytes before response r got.Gone = LacksAsked now (asked before)
+LeadsTo now end bytes before response r (got.Old generation) = response ≡ told.Refused (fault.OldGeneration generation)
+
+-- another share is asked for, since the parity covers it into the range
+abbrev pub AsksOther : Phase → Type 0
+AsksOther Direct = ⊥
+AsksOther Lengths = ⊥
+AsksOther (Others lengths sum j) = Unit {0}

@@ -1,17 +1,19 @@
-ghost use Rattle.std.specs.Prelude.{◌≡◌, ℕ, ◌+◌, ◌-◌, ◌*◌, ◌<◌, ◌≤◌, false, List, length, take, drop, Option, IfSome, IsSome};
+ghost use Rattle.std.specs.Prelude.{◌≡◌, ℕ, ◌+◌, ◌*◌, ◌<◌, ◌≤◌, List, length, take, drop, Option, IfSome, IsSome};
 ghost use Rattle.zb_types.specs.declared.ids.ServerId.{ServerId};
 ghost use Rattle.zb_types.specs.declared.ids.Ptr.{Ptr};
 ghost use Rattle.zb_types.specs.declared.requests.Response.{Response};
-ghost use Rattle.zb_holding.specs.Holding.{Maps, StripeHolds, standing, away_at};
-ghost use Rattle.zb_stripe.specs.Reading.{Reading, start, asked, fed, answered};
+ghost use Rattle.zb_holding.specs.Holding.{Maps, View, view_of, StripeHolds, StripeRemains, is_away};
+ghost use Rattle.zb_stripe.specs.Reading.{Reading, start, server_at, is_lost, asked, fed, answered};
 ghost use Rattle.zb_stripe_laws.specs.ReadAtWork.{
   ReadAtWork,
+  StillGrow,
   WasLooked,
+  TellsOfFragment,
   IsOutOf,
   AllAnswer,
   MayAnswer,
   LeadsTo,
-  IsGoneOrLonger,
+  AsksOther,
 };
 
 use zb_stripe::Got;
@@ -19,33 +21,44 @@ use zb_stripe::Got;
 /// Where one server at most is left away or down, and the others answer from maps that hold the stripe, a read gives the
 /// stripe's bytes, after a bounded number of answers.
 pub fn read_gives_bytes()
-    ensures right { (n f : ℕ) (maps : Maps) (x z out : Option ServerId) (ptr : Ptr) (end : ℕ) (bytes : List ℕ) (responses : List Response)
-        → 2 ≤ n → 0 < f → 0 < ptr.len → ptr.offset + ptr.len ≤ end → IsOutOf out z
-        → StripeHolds n f maps x ptr.log ptr.stripe end bytes
-        → AllAnswer maps x z (start n f ptr out) responses
-        → IfSome (answered (start n f ptr out) responses) (λ got. got
+    ensures right { (v : View) (z out : Option ServerId) (ptr : Ptr) (end : ℕ) (bytes : List ℕ) (responses : List Response)
+        → 2 ≤ v.servers → 0 < v.fragment → 0 < ptr.len → ptr.offset + ptr.len ≤ end → IsOutOf out z
+        → StripeHolds v ptr.log ptr.stripe end bytes
+        → AllAnswer v.maps v.away z (start v.servers v.fragment ptr out) responses
+        → IfSome (answered (start v.servers v.fragment ptr out) responses) (λ got. got
         ≡ Got.Bytes (take ptr.len (drop ptr.offset bytes))) }
-    ensures ends { (n f : ℕ) (maps : Maps) (x z out : Option ServerId) (ptr : Ptr) (end : ℕ) (bytes : List ℕ) (responses : List Response)
-        → 2 ≤ n → 0 < f → 0 < ptr.len → ptr.offset + ptr.len ≤ end → IsOutOf out z
-        → StripeHolds n f maps x ptr.log ptr.stripe end bytes
-        → AllAnswer maps x z (start n f ptr out) responses
-        → (ptr.len + 1) * (n + 2) ≤ length responses → IsSome (answered (start n f ptr out) responses) }
+    ensures ends { (v : View) (z out : Option ServerId) (ptr : Ptr) (end : ℕ) (bytes : List ℕ) (responses : List Response)
+        → 2 ≤ v.servers → 0 < v.fragment → 0 < ptr.len → ptr.offset + ptr.len ≤ end → IsOutOf out z
+        → StripeHolds v ptr.log ptr.stripe end bytes
+        → AllAnswer v.maps v.away z (start v.servers v.fragment ptr out) responses
+        → (ptr.len + 1) * (v.servers + 2) ≤ length responses → IsSome (answered (start v.servers v.fragment ptr out) responses) }
 {}
 
-/// A read while others write, answer by answer: it begins at work, stays so over maps with the same committed bytes whose
-/// shares are gone or grow, and an answer from the maps of now leads it on or to an end that is right.
+/// A read while others write, answer by answer: it begins at work over what remains of its stripe, stays so over maps with
+/// the same committed bytes whose shares are gone or grow, and an answer from the maps of now leads it on or to an end that
+/// is right. It is gone only where the fragment that is asked for isn't there: of a stripe that is held, another share than
+/// the range's own.
 pub fn read_goes_on()
-    ensures begins { (n f : ℕ) (now : Maps) (x out : Option ServerId) (ptr : Ptr) (end : ℕ) (bytes : List ℕ)
-        → 2 ≤ n → 0 < f → 0 < ptr.len → ptr.offset + ptr.len ≤ end
-        → StripeHolds n f now x ptr.log ptr.stripe end bytes → ReadAtWork now end bytes (start n f ptr out) }
+    ensures begins { (v : View) (out : Option ServerId) (ptr : Ptr) (end : ℕ) (bytes : List ℕ)
+        → 2 ≤ v.servers → 0 < v.fragment → 0 < ptr.len → ptr.offset + ptr.len ≤ end
+        → StripeRemains v ptr.log ptr.stripe end bytes
+        → ReadAtWork v.maps end bytes (start v.servers v.fragment ptr out) }
+    ensures first { (n f : ℕ) (ptr : Ptr) (out : Option ServerId) (k : ℕ)
+        → k < n → is_lost (start n f ptr out) k ≡ is_away out (server_at (start n f ptr out) k) }
     ensures stays { (now new : Maps) (end : ℕ) (bytes other : List ℕ) (r : Reading) (work : ReadAtWork now end bytes r)
         → 2 ≤ r.servers → 0 < r.fragment → r.ptr.offset + r.ptr.len ≤ end → take end bytes ≡ take end other
-        → ((j : ℕ) → j < r.servers - 1 → away_at r.servers work.y r.ptr.log r.ptr.stripe j ≡ false
-        → IsGoneOrLonger (standing r.servers new r.ptr.log r.ptr.stripe j) (standing r.servers now r.ptr.log r.ptr.stripe j))
+        → StillGrow r.servers r.ptr now new work.y r.phase
         → ReadAtWork new end other r }
     ensures goes_on { (now : Maps) (x : Option ServerId) (end : ℕ) (bytes : List ℕ) (r : Reading) (response : Response) (work : ReadAtWork now end bytes r)
         → 2 ≤ r.servers → 0 < r.fragment → r.ptr.offset + r.ptr.len ≤ end
-        → StripeHolds r.servers r.fragment now x r.ptr.log r.ptr.stripe end bytes
-        → WasLooked r.servers r.ptr work.y r.phase
-        → MayAnswer now x (asked r) response → LeadsTo now end bytes r (fed r response).0 (fed r response).1 }
+        → StripeRemains (view_of r.servers r.fragment now x) r.ptr.log r.ptr.stripe end bytes
+        → (TellsOfFragment response → WasLooked r.servers r.ptr work.y r.phase)
+        → MayAnswer now x (asked r) response
+        → LeadsTo now end bytes r response (fed r response).0 (fed r response).1 }
+    ensures gone { (now : Maps) (x : Option ServerId) (end : ℕ) (bytes : List ℕ) (r : Reading) (response : Response)
+        → ReadAtWork now end bytes r
+        → 2 ≤ r.servers → 0 < r.fragment → r.ptr.offset + r.ptr.len ≤ end
+        → StripeHolds (view_of r.servers r.fragment now x) r.ptr.log r.ptr.stripe end bytes
+        → MayAnswer now x (asked r) response → (fed r response).1 ≡ Got.Gone
+        → AsksOther r.phase }
 {}

@@ -9,8 +9,8 @@ pub returns-clause-asked : goal.returns-clause-asked
 returns-clause-asked c n f out class flush i asked some small is = plan_may_ask n f some small out class flush i asked is
 
 pub returns-clause-done : goal.returns-clause-done
-returns-clause-done c n f servers maps out x class flush i asked differ begin is away now =
-    plan_is_done n f servers maps out x class flush i asked differ begin is away now
+returns-clause-done c v servers out class flush i asked differ begin is away now =
+    plan_is_done v.servers v.fragment servers v.maps out v.away class flush i asked differ begin is away now
 
 pub returns-clause-next : goal.returns-clause-next
 returns-clause-next c servers new maps plan i asked is now then = then ∙ ap (λ (ms : Maps). carried ms asked) now ∙ sym (carried_next maps plan i asked is)

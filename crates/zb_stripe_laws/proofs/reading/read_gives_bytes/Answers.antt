@@ -18,14 +18,14 @@ only n ptr None z known is k l e = absurd (false≢true (known k l e))
 only n ptr (Some a) z known is k l e = ap (λ (o : Option ServerId). is_away o (server_of n (frag_id ptr.log ptr.stripe k))) is ∙ known k l e
 
 pub returns-clause-right : goal.returns-clause-right
-returns-clause-right c n f maps x z out ptr end bytes responses two some long inside is held all =
-    let s = starts n f maps x ptr end bytes two some inside out long in
+returns-clause-right c v z out ptr end bytes responses two some long inside is held all =
+    let s = starts v.servers v.fragment v.maps v.away ptr end bytes two some inside out long in
     subst (λ (r : Reading). IfSome (answered r responses) (λ g. g ≡ got.Bytes (take ptr.len (drop ptr.offset bytes)))) (sym s.is)
-    (gathers n f maps x z ptr end bytes two some inside held responses (first_lost n ptr out) [] s.phase s.so_far (only n ptr out z s.known is) s.fits (subst (λ (r : Reading). AllAnswer maps x z r responses) s.is all))
+    (gathers v.servers v.fragment v.maps v.away z ptr end bytes two some inside held responses (first_lost v.servers ptr out) [] s.phase s.so_far (only v.servers ptr out z s.known is) s.fits (subst (λ (r : Reading). AllAnswer v.maps v.away z r responses) s.is all))
 
 pub returns-clause-ends : goal.returns-clause-ends
-returns-clause-ends c n f maps x z out ptr end bytes responses two some long inside is held all enough =
-    let s = starts n f maps x ptr end bytes two some inside out long in
+returns-clause-ends c v z out ptr end bytes responses two some long inside is held all enough =
+    let s = starts v.servers v.fragment v.maps v.away ptr end bytes two some inside out long in
     let bound = s.bound in
     subst (λ (r : Reading). IsSome (answered r responses)) (sym s.is)
-    (comes_to_end n f maps x z ptr end bytes two some inside held responses (first_lost n ptr out) [] s.phase s.so_far (only n ptr out z s.known is) s.fits (subst (λ (r : Reading). AllAnswer maps x z r responses) s.is all) (omega arith))
+    (comes_to_end v.servers v.fragment v.maps v.away z ptr end bytes two some inside held responses (first_lost v.servers ptr out) [] s.phase s.so_far (only v.servers ptr out z s.known is) s.fits (subst (λ (r : Reading). AllAnswer v.maps v.away z r responses) s.is all) (omega arith))

@@ -1,20 +1,30 @@
-use Rattle.std.proofs.Common.{[], subst, sym}
+use Rattle.std.proofs.Common.{[], false, subst, sym, arith}
+use Rattle.std.proofs.lemmas.List.FromFn.{get_or-map-range_with_len}
+use Rattle.zb_holding.specs.Placing.{frag_id, server_of}
+use Rattle.zb_holding.specs.Holding.{is_away}
 use Rattle.zb_stripe.specs.Reading.{first_lost}
 use Rattle.zb_stripe_laws.specs.ReadAtWork.{ReadAtWork}
 use Rattle.zb_stripe_laws.proofs.Gathering.{starts}
-use Rattle.zb_stripe_laws.proofs.Ongoing.{at_work, goes_on, stays}
+use Rattle.zb_stripe_laws.proofs.Ongoing.{at_work, goes_on, gone_other, stays}
 use Rattle.zb_stripe_laws.proofs.reading.read_goes_on.Goals as goal
 
 pub returns-clause-begins : goal.returns-clause-begins
-returns-clause-begins c n f now x out ptr end bytes two some long inside held =
-    let s = starts n f now x ptr end bytes two some inside out long in
-    subst (ReadAtWork now end bytes) (sym s.is)
-    (at_work n f ptr end two some inside now x bytes held (first_lost n ptr out) [] s.phase s.so_far s.fits)
+returns-clause-begins c v out ptr end bytes two some long inside remains =
+    let s = starts v.servers v.fragment v.maps v.away ptr end bytes two some inside out long in
+    subst (ReadAtWork v.maps end bytes) (sym s.is)
+    (at_work v.servers v.fragment ptr end two some inside v.maps v.away bytes remains (first_lost v.servers ptr out) [] s.phase s.so_far s.fits)
+
+pub returns-clause-first : goal.returns-clause-first
+returns-clause-first c n f ptr out k l = get_or-map-range_with_len (λ i. is_away out (server_of n (frag_id ptr.log ptr.stripe i))) 0 n k k false l (omega arith)
 
 pub returns-clause-stays : goal.returns-clause-stays
 returns-clause-stays c now new end bytes other r work two some inside same longer =
     stays r.servers r.fragment r.ptr end two some inside now new bytes other same r.lost r.read r.phase work longer
 
 pub returns-clause-goes_on : goal.returns-clause-goes_on
-returns-clause-goes_on c now x end bytes r response work two some inside held looked answers =
-    goes_on r.servers r.fragment r.ptr end two some inside now x bytes held r.lost r.read r.phase response work looked answers
+returns-clause-goes_on c now x end bytes r response work two some inside remains looked answers =
+    goes_on r.servers r.fragment r.ptr end two some inside now x bytes remains r.lost r.read r.phase response work looked answers
+
+pub returns-clause-gone : goal.returns-clause-gone
+returns-clause-gone c now x end bytes r response work two some inside held answers gone =
+    gone_other r.servers r.fragment r.ptr end two some inside now x bytes held r.lost r.read r.phase response work answers gone

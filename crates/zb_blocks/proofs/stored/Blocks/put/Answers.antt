@@ -1,5 +1,6 @@
 use Rattle.std.proofs.Common.{◌∙◌, None, inr, arith}
 use Rattle.zb_types.specs.declared.nodes.Class.TheVariants.{Client}
+use Rattle.zb_holding.specs.Holding.{view_of}
 use Rattle.zb_plain.specs.Standing.{maps_of}
 use Rattle.zb_blocks.proofs.Standings.{extends_same}
 use Rattle.zb_blocks.proofs.Addresses.{going}
@@ -35,8 +36,8 @@ invariant_of-self c =
     let flush = c.in_ok-placed.flush in
     let law = c.plan_keeps_stripes.ensures in
     let laws : KeepsStripes geo.servers geo.fragment maps flush flush.log = record {
-      whole = λ before after part is apart fits begin. law.whole geo.servers geo.fragment maps None None Client flush before after part is apart fits tt begin;
-      each = λ before after part is apart fits held stands. law.each geo.servers geo.fragment maps None None Client flush before after part part.begin is apart fits (omega arith) tt held stands;
+      whole = λ before after part is apart fits begin. law.whole (view_of geo.servers geo.fragment maps None) None Client flush before after part is apart fits tt begin;
+      each = λ before after part is apart fits held stands. law.each (view_of geo.servers geo.fragment maps None) None Client flush before after part part.begin is apart fits (omega arith) tt held stands;
       others = λ stripe i k away. law.others geo.servers geo.fragment maps None Client flush flush.log stripe i k (inr away);
     } in
     rw c.go_on.ensures.new
@@ -50,8 +51,8 @@ returns-in-Ok-clause-at c =
     let flush = c.in_ok-placed.flush in
     let law = c.plan_keeps_stripes.ensures in
     let laws : KeepsStripes geo.servers geo.fragment maps flush flush.log = record {
-      whole = λ before after part is apart fits begin. law.whole geo.servers geo.fragment maps None None Client flush before after part is apart fits tt begin;
-      each = λ before after part is apart fits held stands. law.each geo.servers geo.fragment maps None None Client flush before after part part.begin is apart fits (omega arith) tt held stands;
+      whole = λ before after part is apart fits begin. law.whole (view_of geo.servers geo.fragment maps None) None Client flush before after part is apart fits tt begin;
+      each = λ before after part is apart fits held stands. law.each (view_of geo.servers geo.fragment maps None) None Client flush before after part part.begin is apart fits (omega arith) tt held stands;
       others = λ stripe i k away. law.others geo.servers geo.fragment maps None Client flush flush.log stripe i k (inr away);
     } in
     rw c.go_on.ensures.new
@@ -65,8 +66,8 @@ returns-in-Ok-clause-stays c =
     let flush = c.in_ok-placed.flush in
     let law = c.plan_keeps_stripes.ensures in
     let laws : KeepsStripes geo.servers geo.fragment maps flush flush.log = record {
-      whole = λ before after part is apart fits begin. law.whole geo.servers geo.fragment maps None None Client flush before after part is apart fits tt begin;
-      each = λ before after part is apart fits held stands. law.each geo.servers geo.fragment maps None None Client flush before after part part.begin is apart fits (omega arith) tt held stands;
+      whole = λ before after part is apart fits begin. law.whole (view_of geo.servers geo.fragment maps None) None Client flush before after part is apart fits tt begin;
+      each = λ before after part is apart fits held stands. law.each (view_of geo.servers geo.fragment maps None) None Client flush before after part part.begin is apart fits (omega arith) tt held stands;
       others = λ stripe i k away. law.others geo.servers geo.fragment maps None Client flush flush.log stripe i k (inr away);
     } in
     rw (← c.self.view_is, c.go_on.ensures.new)
@@ -80,8 +81,8 @@ returns-in-Ok-clause-stripes c =
     let flush = c.in_ok-placed.flush in
     let law = c.plan_keeps_stripes.ensures in
     let laws : KeepsStripes geo.servers geo.fragment maps flush flush.log = record {
-      whole = λ before after part is apart fits begin. law.whole geo.servers geo.fragment maps None None Client flush before after part is apart fits tt begin;
-      each = λ before after part is apart fits held stands. law.each geo.servers geo.fragment maps None None Client flush before after part part.begin is apart fits (omega arith) tt held stands;
+      whole = λ before after part is apart fits begin. law.whole (view_of geo.servers geo.fragment maps None) None Client flush before after part is apart fits tt begin;
+      each = λ before after part is apart fits held stands. law.each (view_of geo.servers geo.fragment maps None) None Client flush before after part part.begin is apart fits (omega arith) tt held stands;
       others = λ stripe i k away. law.others geo.servers geo.fragment maps None Client flush flush.log stripe i k (inr away);
     } in
     rw c.go_on.ensures.new
@@ -95,8 +96,8 @@ invariant_of-self-in-Err-1 c =
     let flush = c.in_ok-placed.flush in
     let law = c.plan_keeps_stripes.ensures in
     let laws : KeepsStripes geo.servers geo.fragment maps flush flush.log = record {
-      whole = λ before after part is apart fits begin. law.whole geo.servers geo.fragment maps None None Client flush before after part is apart fits tt begin;
-      each = λ before after part is apart fits held stands. law.each geo.servers geo.fragment maps None None Client flush before after part part.begin is apart fits (omega arith) tt held stands;
+      whole = λ before after part is apart fits begin. law.whole (view_of geo.servers geo.fragment maps None) None Client flush before after part is apart fits tt begin;
+      each = λ before after part is apart fits held stands. law.each (view_of geo.servers geo.fragment maps None) None Client flush before after part part.begin is apart fits (omega arith) tt held stands;
       others = λ stripe i k away. law.others geo.servers geo.fragment maps None Client flush flush.log stripe i k (inr away);
     } in
     rw c.leave.ensures
@@ -110,8 +111,8 @@ returns-in-Err-clause-err c =
     let flush = c.in_ok-placed.flush in
     let law = c.plan_keeps_stripes.ensures in
     let laws : KeepsStripes geo.servers geo.fragment maps flush flush.log = record {
-      whole = λ before after part is apart fits begin. law.whole geo.servers geo.fragment maps None None Client flush before after part is apart fits tt begin;
-      each = λ before after part is apart fits held stands. law.each geo.servers geo.fragment maps None None Client flush before after part part.begin is apart fits (omega arith) tt held stands;
+      whole = λ before after part is apart fits begin. law.whole (view_of geo.servers geo.fragment maps None) None Client flush before after part is apart fits tt begin;
+      each = λ before after part is apart fits held stands. law.each (view_of geo.servers geo.fragment maps None) None Client flush before after part part.begin is apart fits (omega arith) tt held stands;
       others = λ stripe i k away. law.others geo.servers geo.fragment maps None Client flush flush.log stripe i k (inr away);
     } in
     rw (← c.self.view_is, c.leave.ensures)
@@ -125,8 +126,8 @@ returns-in-Err-clause-stays c =
     let flush = c.in_ok-placed.flush in
     let law = c.plan_keeps_stripes.ensures in
     let laws : KeepsStripes geo.servers geo.fragment maps flush flush.log = record {
-      whole = λ before after part is apart fits begin. law.whole geo.servers geo.fragment maps None None Client flush before after part is apart fits tt begin;
-      each = λ before after part is apart fits held stands. law.each geo.servers geo.fragment maps None None Client flush before after part part.begin is apart fits (omega arith) tt held stands;
+      whole = λ before after part is apart fits begin. law.whole (view_of geo.servers geo.fragment maps None) None Client flush before after part is apart fits tt begin;
+      each = λ before after part is apart fits held stands. law.each (view_of geo.servers geo.fragment maps None) None Client flush before after part part.begin is apart fits (omega arith) tt held stands;
       others = λ stripe i k away. law.others geo.servers geo.fragment maps None Client flush flush.log stripe i k (inr away);
     } in
     rw (← c.self.view_is, c.leave.ensures)
@@ -140,8 +141,8 @@ returns-in-Err-clause-stripes c =
     let flush = c.in_ok-placed.flush in
     let law = c.plan_keeps_stripes.ensures in
     let laws : KeepsStripes geo.servers geo.fragment maps flush flush.log = record {
-      whole = λ before after part is apart fits begin. law.whole geo.servers geo.fragment maps None None Client flush before after part is apart fits tt begin;
-      each = λ before after part is apart fits held stands. law.each geo.servers geo.fragment maps None None Client flush before after part part.begin is apart fits (omega arith) tt held stands;
+      whole = λ before after part is apart fits begin. law.whole (view_of geo.servers geo.fragment maps None) None Client flush before after part is apart fits tt begin;
+      each = λ before after part is apart fits held stands. law.each (view_of geo.servers geo.fragment maps None) None Client flush before after part part.begin is apart fits (omega arith) tt held stands;
       others = λ stripe i k away. law.others geo.servers geo.fragment maps None Client flush flush.log stripe i k (inr away);
     } in
     rw c.leave.ensures

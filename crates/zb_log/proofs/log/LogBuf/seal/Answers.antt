@@ -4,9 +4,10 @@ use Rattle.std.specs.List.{concat}
 use Rattle.std.proofs.lemmas.Grind.{common_steps}
 use Rattle.std.proofs.lemmas.List.Elements.{All-from_recursion}
 use Rattle.zb_stripe.specs.declared.flush.Part.{Part}
+use Rattle.zb_stripe.specs.Writing.{StripesRise}
 use Rattle.zb_log.specs.Sealing.{read_at, parts_of, GoesNext, StandEach}
 use Rattle.zb_log.specs.Logs.{IsSound, end_with, last_of}
-use Rattle.zb_log.proofs.Parting.{PartsRise, CanSeal, can_seal}
+use Rattle.zb_log.proofs.Parting.{can_seal}
 use Rattle.zb_log.proofs.log.LogBuf.seal.Goals as goal
 
 pub parts-requires : goal.parts-requires
@@ -46,7 +47,7 @@ returns-clause-rise c =
     let can = can_seal seen c.args.meta.now c.args.blocks.now c.args.placed.now (subst IsSound c.self.view_is c.self.invariant) c.requires in
     let parts = parts_of seen.next.stripe seen.bytes c.args.placed.now.pieces (c.args.meta.now ++ concat c.args.blocks.now) in
     let same : c.of.result ≡ parts = grind (arith, common_steps) in
-    subst PartsRise (sym same) can.rise
+    subst StripesRise (sym same) can.rise
 
 pub returns-clause-whole : goal.returns-clause-whole
 returns-clause-whole c =

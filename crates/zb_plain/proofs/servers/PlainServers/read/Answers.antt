@@ -1,6 +1,7 @@
 use Rattle.std.proofs.Common.{◌≡◌, ◌+◌, ◌*◌, ◌≤◌, List, [], ◌∷◌, ◌++◌, length, take, drop, None, is_some, sym, ap, subst, ◌∙◌, arith}
 use Rattle.std.specs.Prelude.{IfSome, unwrap_or}
 use Rattle.std.proofs.lemmas.Bool.{false≢true}
+use Rattle.zb_holding.specs.Holding.{view_of}
 use Rattle.zb_stripe.specs.declared.read.Got.TheVariants as got
 use Rattle.zb_stripe.specs.Reading.{start, is_more}
 use Rattle.zb_plain.specs.Standing.{Entries, maps_of}
@@ -23,7 +24,7 @@ returns-in_default c =
     record {
       bytes = λ end bytes le holds.
           subst (λ o. IfSome o (λ g. g ≡ got.Bytes (take ptr.len (drop ptr.offset bytes)))) ends
-          (c.read_gives_bytes.ensures.right n f maps None None None ptr end bytes (read.answers ++ one.answer ∷ []) (omega (arith, c.args.geo.now.limits.servers_low)) (omega (arith, c.args.geo.now.limits.fragment_low)) c.requires.some le tt holds all);
+          (c.read_gives_bytes.ensures.right (view_of n f maps None) None None ptr end bytes (read.answers ++ one.answer ∷ []) (omega (arith, c.args.geo.now.limits.servers_low)) (omega (arith, c.args.geo.now.limits.fragment_low)) c.requires.some le tt holds all);
       answers = record {
         answers = read.answers ++ one.answer ∷ [];
         all = all;
@@ -54,7 +55,7 @@ returns-clause-bytes c end bytes le holds =
     let read = c.answers.invariant.read in
     let none = not_ended first c.answers.plan read.answers read.lead in
     let many : (ptr.len + 1) * (n + 2) ≤ length read.answers = rw (read.long, ← c.from.ensures, ← c.from-2.ensures) c.answers-test.false in
-    let some = c.read_gives_bytes.ensures.ends n f maps None None None ptr end bytes read.answers (omega (arith, c.args.geo.now.limits.servers_low)) (omega (arith, c.args.geo.now.limits.fragment_low)) c.requires.some le tt holds read.all many in
+    let some = c.read_gives_bytes.ensures.ends (view_of n f maps None) None None ptr end bytes read.answers (omega (arith, c.args.geo.now.limits.servers_low)) (omega (arith, c.args.geo.now.limits.fragment_low)) c.requires.some le tt holds read.all many in
     absurd (false≢true (sym (ap is_some none) ∙ some))
 
 pub returns-clause-answers : goal.returns-clause-answers

@@ -108,6 +108,6 @@ ptrs_lie seen meta blocks pieces ptrs s a is to =
     let fit = subst (λ (z : ℕ). AreBlocks z blocks) (sym (meta_room first meta)) (blocks_fit seen.block seen.room blocks s.fits a) in
     let begin = laid_meta seen.next first meta s.some (laid_begun seen.log seen.room seen.next s.within) in
     let o = own_blocks seen.next seen.log [] blocks (with_meta first meta) (meta_log first meta) (recursion_from_All (λ n. (1 ≤ n) × (n ≤ (with_meta first meta).room)) blocks fit) begin
-        (subst (λ (z : List Ptr). AllZip (IsOwn seen.log (pieces_of (with_meta first meta))) z []) (sym (meta_ptrs first meta)) tt) in
+    (subst (λ (z : List Ptr). AllZip (IsOwn seen.log (pieces_of (with_meta first meta))) z []) (sym (meta_ptrs first meta)) tt) in
     subst (λ (z : List Piece). AllZip (IsPtrIn seen.log z) ptrs blocks) (sym is)
     (subst (λ (z : List Ptr). AllZip (IsPtrIn seen.log (pieces_of laid)) z blocks) (sym to) (own_each seen.log (pieces_of laid) laid.ptrs blocks o))

@@ -1,0 +1,5 @@
+//! Tests of the language of scripts, of reports and of their texts.
+#![tactic(auto)]
+
+#[cfg(test)]
+mod scripts;

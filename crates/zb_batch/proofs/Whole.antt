@@ -5,15 +5,16 @@ use Rattle.std.specs.List.{AllByRecursion, list_all}
 use Rattle.std.specs.Option.{option_map}
 use Rattle.std.proofs.lemmas.Bool.{leb-true}
 use Rattle.std.proofs.lemmas.List.{drop_at}
+use Rattle.std.proofs.lemmas.List.Sums.{sum_by-cons}
 use Rattle.zb_numbers.specs.Fronts.{ReadsFront, IsPrefixFree}
-use Rattle.zb_numbers.specs.Numbers.{number_text, zeros}
+use Rattle.zb_numbers.specs.Numbers.{number_text, IsBelow, zeros}
 use Rattle.zb_numbers.proofs.Found.{found_again}
 use Rattle.zb_numbers.proofs.Many.{many_once}
 use Rattle.zb_batch.specs.declared.batch.Batch.{Batch}
 use Rattle.zb_batch.specs.declared.batch.Op.{Op}
 use Rattle.zb_batch.specs.declared.header.Header.{Header}
-use Rattle.zb_batch.specs.Spelling.{op_text, ops_text, delta_count, meta_length, spelling_of_batch}
-use Rattle.zb_batch.specs.Batches.{IsShaped, IsOp, is_alone, is_company, IsSpellable, IsBatch}
+use Rattle.zb_batch.specs.Spelling.{deltas_of, op_text, ops_text, delta_count, meta_length, spelling_of_batch}
+use Rattle.zb_batch.specs.Batches.{IsShaped, HasAllRoom, IsOp, is_alone, is_company, IsSpellable, IsBatch}
 use Rattle.zb_batch.specs.Reading.{AreOps, IsHeader, header_text, header_of, Agrees}
 use Rattle.zb_batch.proofs.Sizes.{length-ops_text, length-header_text, count_of_ops}
 use Rattle.zb_batch.proofs.Once.{op_once, header_once}
@@ -122,3 +123,21 @@ shapes (op ∷ ops) h = (h.0.shaped, shapes ops h.1)
 -- what was read can be spelled
 pub spellable : (batch : Batch) → IsBatch batch → IsSpellable batch
 spellable batch h = record { shaped = shapes batch.ops h.ops; company = h.company; short = h.short }
+
+-- ---- what was written can be read
+
+are_ops : (ops : List Op) → AllByRecursion IsShaped ops → AllByRecursion HasAllRoom ops → IsBelow 4 (delta_count ops) → AllByRecursion IsOp ops
+are_ops [] shaped room few = tt
+are_ops (op ∷ ops) shaped room few =
+    let sum = sum_by-cons (λ (o : Op). length (deltas_of o)) op ops in
+    (record { shaped = shaped.0; room = room.0.own; count = omega (arith, few); deltas = room.0.deltas }, are_ops ops shaped.1 room.1 (omega (arith, few)))
+
+pub is_batch : (batch : Batch) → IsSpellable batch → IsHeader (header_of batch) → AllByRecursion HasAllRoom batch.ops → 1 ≤ batch.number → IsBatch batch
+is_batch batch s h room numbered = record {
+  log = h.log;
+  number = h.number;
+  numbered = numbered;
+  ops = are_ops batch.ops s.shaped room h.deltas;
+  company = s.company;
+  short = s.short;
+}

@@ -62,6 +62,11 @@ pub record IsOp (op : Op) : Type 0 where
   pub count : IsBelow 4 (length (deltas_of op))
   pub deltas : AllByRecursion IsDelta (deltas_of op)
 
+-- its numbers and those of its deltas have room in their bytes
+pub record HasAllRoom (op : Op) : Type 0 where
+  pub own : HasRoom op
+  pub deltas : AllByRecursion IsDelta (deltas_of op)
+
 -- a name operation and a clean stand alone in their batch
 abbrev pub is_alone : Op → Bool
 is_alone (Name call what) = true

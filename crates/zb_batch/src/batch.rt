@@ -1,4 +1,4 @@
-ghost use Rattle.std.specs.Prelude.{◌≡◌, ◌++◌, ◌↔◌, ℕ, List, drop, length, IfOk, IsTrue, Some, not};
+ghost use Rattle.std.specs.Prelude.{◌≡◌, ◌≤◌, ◌++◌, ◌↔◌, ℕ, List, drop, length, IfOk, IfSome, OnOk, IsTrue, Some, not};
 ghost use Rattle.std.specs.List.{list_all};
 ghost use Rattle.std.specs.Option.{option_map};
 ghost use Rattle.zb_numbers.specs.Fronts.{ReadsFront};
@@ -147,7 +147,10 @@ impl Batch {
     /// The bytes of its meta part.
     pub fn write(&self, alloc: Global) -> Mem<ByteList>
         requires { IsSpellable self.now }
-        ensures { IfOk result (λ text. text ≡ spelling_of_batch self.now) }
+        ensures text { IfOk result (λ text. text ≡ spelling_of_batch self.now) }
+
+        // A batch with a number of at least 1 is read back from them.
+        ensures again { OnOk result (1 ≤ self.now.number → IsBatch self.now) }
     {
         let mut text = ByteList::new(alloc)?;
         push_header(alloc, &mut text, &self.header())?;
@@ -159,6 +162,9 @@ impl Batch {
     pub fn read(alloc: Global, bytes: &[u8]) -> Mem<Option<Batch>>
         ensures found { IfOk result (λ found.
             ReadsFront IsBatch spelling_of_batch bytes.now (option_map (λ batch. (batch, drop (meta_length batch) bytes.now)) found)) }
+
+        // What is read may be written.
+        ensures spellable { IfOk result (λ found. IfSome found IsSpellable) }
 
         // What is spelled is read, whatever follows.
         ensures again { (batch : Batch) (rest : List ℕ) → IsBatch batch → spelling_of_batch batch ++ rest ≡ bytes.now

@@ -1,6 +1,7 @@
 ghost use Rattle.std.specs.Prelude.{◌≡◌, ◌≤◌, ◌++◌, OnOk, length};
 ghost use Rattle.std.specs.Option.{option_map};
 ghost use Rattle.zb_numbers.specs.Fronts.{ReadsFront};
+ghost use Rattle.zb_numbers.specs.Numbers.{IsBelow};
 ghost use Rattle.zb_batch.specs.Reading.{IsHeader, counts_text, numbers_text, header_text};
 
 use std::alloc::Global;
@@ -70,7 +71,9 @@ pub(crate) fn read_header(bytes: &[u8]) -> Option<(Header, &[u8])>
 }
 
 fn push_counts(alloc: Global, to: &mut ByteList, header: &Header) -> Mem<()>
-    ensures { OnOk result (to.new ≡ to.old ++ counts_text header.now) }
+    ensures text { OnOk result (to.new ≡ to.old ++ counts_text header.now) }
+    ensures ops { OnOk result (IsBelow 2 header.now.ops) }
+    ensures deltas { OnOk result (IsBelow 4 header.now.deltas) }
 {
     push_u16(alloc, to, header.ops)?;
     append(alloc, to, &[0; 2])?;
@@ -80,7 +83,8 @@ fn push_counts(alloc: Global, to: &mut ByteList, header: &Header) -> Mem<()>
 
 /// Writes a header, or a part of it where memory runs out.
 pub(crate) fn push_header(alloc: Global, to: &mut ByteList, header: &Header) -> Mem<()>
-    ensures { OnOk result (to.new ≡ to.old ++ header_text header.now) }
+    ensures text { OnOk result (to.new ≡ to.old ++ header_text header.now) }
+    ensures room { OnOk result (IsHeader header.now) }
 {
     append(alloc, to, &FIRST_WORD)?;
     push_u32(alloc, to, header.log.0)?;

@@ -12,6 +12,3 @@ mod paths;
 
 pub use batch::{Batch, Op, OpList};
 pub use laws::batches_are_prefix_free;
-
-#[cfg(test)]
-mod tests;

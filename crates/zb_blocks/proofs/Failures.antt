@@ -1,19 +1,20 @@
 -- Blocks that memory ran out for.
-use Rattle.std.proofs.Common.{◌≡◌, ℕ, ◌+◌, ◌<◌, List, [], ◌∷◌, ◌++◌, length, take, Option, Some, None, refl, sym, ap, subst, ◌∙◌, inl, inr, arith}
+use Rattle.std.proofs.Common.{◌≡◌, ◌-◌, ◌*◌, ℕ, ◌+◌, ◌<◌, List, [], ◌∷◌, ◌++◌, length, take, Option, Some, None, refl, sym, ap, subst, ◌∙◌, inl, inr, arith}
 use Rattle.std.specs.Prelude.{slice_index}
 use Rattle.std.proofs.lemmas.Bool.{cases_lt}
 use Rattle.zb_types.specs.declared.ids.Ptr.{Ptr}
-use Rattle.zb_holding.specs.Holding.{StripeHolds}
+use Rattle.zb_holding.specs.Holding.{StripeHolds, view_of}
 use Rattle.zb_stripe.specs.declared.flush.Part.{Part}
 use Rattle.zb_stripe.specs.declared.flush.Flush.{Flush}
 use Rattle.zb_stripe_laws.specs.PartAtWork.{AreElsewhere}
 use Rattle.zb_log.specs.declared.places.Place.{Place}
+use Rattle.zb_log.specs.declared.placed.Placed.{Placed}
 use Rattle.zb_log.specs.Places.{place}
-use Rattle.zb_log.specs.Logs.{SeenLog, with_last}
+use Rattle.zb_log.specs.Logs.{SeenLog, last_of}
 use Rattle.zb_plain.specs.Standing.{Entries, maps_of}
 use Rattle.zb_plain.specs.Delivering.{IsBegun}
 use Rattle.zb_blocks.specs.Blocks.{SeenBlocks, IsSound, LogStands, LogFits, blocks_log, end_of, contents_of, HaveSameContents}
-use Rattle.zb_blocks.specs.Flushing.{last_of, IsFlushed, behind_part}
+use Rattle.zb_blocks.specs.Flushing.{IsFlushed, behind_part}
 use Rattle.zb_blocks.proofs.Standings.{Holds, EachHolds, each_holds, stripes_hold, contents_held, contents_none}
 use Rattle.zb_blocks.proofs.Parts.{Each, find, at_part, highest, last_among, none_last, elsewhere_above}
 use Rattle.zb_blocks.proofs.Addresses.{IsGoing, going}
@@ -21,18 +22,18 @@ use Rattle.zb_blocks.proofs.Beginnings.{Next, begins_or_goes_on, is_writable}
 use Rattle.zb_blocks.proofs.Keeping.{Plan, KeepsStripes, stays_held, stays_free, stays_indexed, goes_on_held}
 use Rattle.zb_blocks.proofs.Stores.{parts_differ}
 
-module _ (old : SeenBlocks) (s : IsSound old) (blocks : List (List ℕ)) (ptrs : List Ptr) (flush : Flush) (log : SeenLog) (went : IsFlushed old.log blocks ptrs flush log)
+module _ (old : SeenBlocks) (s : IsSound old) (blocks : List (List ℕ)) (placed : Placed) (flush : Flush) (went : IsFlushed old.log blocks placed flush)
     (laws : KeepsStripes old.servers old.fragment (maps_of old.kept) flush flush.log) (kept : List Entries) (ends : List ℕ)
     (begun : IsBegun (maps_of old.kept) (maps_of kept) (Plan old.servers old.fragment flush))
     (same : (stripe : ℕ) → slice_index ends stripe ≡ slice_index old.ends stripe) (count : length kept ≡ length old.kept) where
-  abbrev Going : IsGoing old.log blocks ptrs flush
-  Going = going old.log blocks ptrs flush log went
+  abbrev Going : IsGoing old.log blocks placed.ptrs flush
+  Going = going old.log blocks placed flush went
 
   keeps : KeepsStripes old.servers old.fragment (maps_of old.kept) flush blocks_log
   keeps = subst (KeepsStripes old.servers old.fragment (maps_of old.kept) flush) (went.log_is ∙ s.log_fits.log) laws
 
   abbrev pub left : SeenBlocks
-  left = record old { log = behind_part log (last_of flush.parts); kept = kept; ends = ends }
+  left = record old { log = behind_part old.log (last_of flush.parts); kept = kept; ends = ends }
 
   -- a committed stripe still holds its bytes, and perhaps more behind them
   record StillHolds (stripe : ℕ) : Type 0 where
@@ -45,7 +46,7 @@ module _ (old : SeenBlocks) (s : IsSound old) (blocks : List (List ℕ)) (ptrs :
       let h = each_holds old s.stripes_hold stripe some in
       record {
         bytes = h.0;
-        holds = subst (λ (z : ℕ). StripeHolds old.servers old.fragment (maps_of kept) None blocks_log stripe z h.0) (sym (same stripe))
+        holds = subst (λ (z : ℕ). StripeHolds (view_of old.servers old.fragment (maps_of kept) None) blocks_log stripe z h.0) (sym (same stripe))
             (stays_held old.servers old.fragment (maps_of old.kept) (maps_of kept) flush blocks_log keeps begun stripe (end_of old stripe) h.0 away h.1);
         first = ap (λ (z : ℕ). take z h.0) (same stripe) ∙ sym (contents_held old stripe h.0 h.1);
       }
@@ -58,8 +59,8 @@ module _ (old : SeenBlocks) (s : IsSound old) (blocks : List (List ℕ)) (ptrs :
             let end : end_of left part.stripe ≡ part.begin = same part.stripe ∙ sym on.begin in
             record {
               bytes = part.bytes;
-              holds = subst (λ (z : ℕ). StripeHolds old.servers old.fragment (maps_of kept) None blocks_log part.stripe z part.bytes) (sym end)
-                  (goes_on_held old.servers old.fragment (maps_of old.kept) (maps_of kept) flush blocks_log keeps begun first after part is (parts_differ old s blocks ptrs flush log went) (is_writable old s part next) on.holds on.stands);
+              holds = subst (λ (z : ℕ). StripeHolds (view_of old.servers old.fragment (maps_of kept) None) blocks_log part.stripe z part.bytes) (sym end)
+                  (goes_on_held old.servers old.fragment (maps_of old.kept) (maps_of kept) flush blocks_log keeps begun first after part is (parts_differ old s blocks placed flush went) (is_writable old s part next) on.holds on.stands);
               first = ap (λ (z : ℕ). take z part.bytes) end ∙ on.front;
             }
         | inr fresh ↦ let none = fresh.none in absurd (omega arith)
@@ -87,11 +88,11 @@ module _ (old : SeenBlocks) (s : IsSound old) (blocks : List (List ℕ)) (ptrs :
 
   -- ---- the log
 
-  with_no_part : (next : Place) → last_of flush.parts ≡ None → LogStands (record left { log = record old.log { next = next } })
-  with_no_part next none =
+  with_no_part : last_of flush.parts ≡ None → LogStands (record left { log = old.log })
+  with_no_part none =
       let empty = none_last flush.parts none in
       let away = λ (stripe : ℕ). subst (AreElsewhere stripe) (sym empty) tt in
-      let at_work = old.log.at_work in
+      let at_work = old.log.next.stripe in
       let stands = s.log_stands in
       let free = λ (stripe : ℕ). stays_free old.servers old.fragment (maps_of old.kept) (maps_of kept) flush blocks_log keeps begun stripe (away stripe) in
       record {
@@ -102,7 +103,7 @@ module _ (old : SeenBlocks) (s : IsSound old) (blocks : List (List ℕ)) (ptrs :
         uncommitted = λ stripe lt. same stripe ∙ stands.uncommitted stripe lt;
       }
 
-  behind_last : (last : Part) → last_of flush.parts ≡ Some last → LogStands (record left { log = record old.log { next = place (last.stripe + 1) 0; at_work = last.stripe + 1; bytes = [] } })
+  behind_last : (last : Part) → last_of flush.parts ≡ Some last → LogStands (record left { log = record old.log { next = place (last.stripe + 1) 0; bytes = [] } })
   behind_last last is =
       let split = last_among flush.parts last is in
       let own = at_part (Next old s) split.0 [] last (subst (Each (Next old s)) split.1 Going.each) in
@@ -119,18 +120,13 @@ module _ (old : SeenBlocks) (s : IsSound old) (blocks : List (List ℕ)) (ptrs :
         uncommitted = λ stripe lt. same stripe ∙ stands.uncommitted stripe (omega (arith, lt));
       }
 
-  log_behind : (next : Place) (o : Option Part) → last_of flush.parts ≡ o → LogStands (record left { log = behind_part (with_last (record old.log { next = next }) o) o })
-  log_behind next None is = with_no_part next is
-  log_behind next (Some last) is = behind_last last is
+  log_behind : (o : Option Part) → last_of flush.parts ≡ o → LogStands (record left { log = behind_part old.log o })
+  log_behind None is = with_no_part is
+  log_behind (Some last) is = behind_last last is
 
-  fits_behind : (next : Place) (o : Option Part) → LogFits (record left { log = behind_part (with_last (record old.log { next = next }) o) o })
-  fits_behind next None = record { log = s.log_fits.log; room = s.log_fits.room; block = s.log_fits.block }
-  fits_behind next (Some last) = record { log = s.log_fits.log; room = s.log_fits.room; block = s.log_fits.block }
-
-  log_is : log ≡ with_last (record old.log { next = went.between.next }) (last_of flush.parts)
-  log_is =
-      let next = ap (λ (z : SeenLog). z.next) went.is_placed.goes_on in
-      went.new_is ∙ ap (λ (z : SeenLog). with_last z (last_of flush.parts)) (went.is_placed.goes_on ∙ ap (λ (z : Place). record old.log { next = z }) (sym next))
+  fits_behind : (o : Option Part) → LogFits (record left { log = behind_part old.log o })
+  fits_behind None = record { log = s.log_fits.log; room = s.log_fits.room; block = s.log_fits.block }
+  fits_behind (Some last) = record { log = s.log_fits.log; room = s.log_fits.room; block = s.log_fits.block }
 
   pub left_sound : IsSound left
   left_sound =
@@ -140,6 +136,6 @@ module _ (old : SeenBlocks) (s : IsSound old) (blocks : List (List ℕ)) (ptrs :
         count = count ∙ s.count;
         indexed = stays_indexed old.servers old.fragment (maps_of old.kept) (maps_of kept) flush blocks_log keeps begun s.indexed;
         stripes_hold = stripes_hold left left_each_holds;
-        log_fits = subst (λ (z : SeenLog). LogFits (record left { log = behind_part z (last_of flush.parts) })) (sym log_is) (fits_behind went.between.next (last_of flush.parts));
-        log_stands = subst (λ (z : SeenLog). LogStands (record left { log = behind_part z (last_of flush.parts) })) (sym log_is) (log_behind went.between.next (last_of flush.parts) refl);
+        log_fits = fits_behind (last_of flush.parts);
+        log_stands = log_behind (last_of flush.parts) refl;
       }

@@ -4,7 +4,7 @@ use Rattle.std.specs.List.{range_with_len, flat_map}
 use Rattle.std.proofs.lemmas.List.{take-take, drop-drop, take_all, take-append-drop, length-take-le, drop-take}
 use Rattle.zb_holding.specs.Fragments.{Fragment, share_fragment, parity_fragment}
 use Rattle.zb_holding.specs.Placing.{share_length, share_of}
-use Rattle.zb_holding.specs.Holding.{share_bytes, Begins, ViewHolds}
+use Rattle.zb_holding.specs.Holding.{share_bytes, Begins, FragmentsHold}
 use Rattle.zb_holding.proofs.Shares.{share_of-take}
 
 -- the first bytes, and those behind them
@@ -42,7 +42,7 @@ begins_is (Some (share_fragment stands)) bytes n b le = ap (take n) b.1 ∙ take
 begins_is (Some (parity_fragment lengths parity)) bytes n b le = absurd b
 
 -- what the shares that stand have of a stripe, one behind the other, are its first bytes
-pub shares_are : (m f : ℕ) (stands : ℕ → Option Fragment) (end : ℕ) (bytes : List ℕ) → ViewHolds m f stands (λ k. false) end bytes
+pub shares_are : (m f : ℕ) (stands : ℕ → Option Fragment) (end : ℕ) (bytes : List ℕ) → FragmentsHold m f stands (λ k. false) end bytes
     → flat_map (λ k. take (share_length f end k) (share_bytes (stands k))) (range_with_len 0 m) ≡ take end bytes
 shares_are m f stands end bytes h =
     let whole = h.whole in

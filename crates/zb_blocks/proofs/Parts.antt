@@ -5,17 +5,19 @@ use Rattle.std.specs.Prelude.{slice_get}
 use Rattle.std.specs.List.{AllByRecursion}
 use Rattle.std.proofs.lemmas.Bool.{cases_eq, eq-eqb, ne_eqb}
 use Rattle.std.proofs.lemmas.List.Elements.{recursion_from_All}
+use Rattle.zb_stripe.specs.Writing.{StripesRise}
 use Rattle.zb_stripe.specs.declared.flush.Part.{Part}
 use Rattle.zb_stripe_laws.specs.PartAtWork.{AreElsewhere, StripesDiffer}
-use Rattle.zb_blocks.specs.Flushing.{last_of, end_after, Rise}
+use Rattle.zb_log.specs.Logs.{last_of}
+use Rattle.zb_blocks.specs.Flushing.{end_after}
 
 abbrev pub Each : (Part → Type 0) → List Part → Type 0
 Each P parts = AllByRecursion P parts
 
-rise_first : (part : Part) (parts : List Part) → Rise (part ∷ parts) → Each (λ other. part.stripe < other.stripe) parts
+rise_first : (part : Part) (parts : List Part) → StripesRise (part ∷ parts) → Each (λ other. part.stripe < other.stripe) parts
 rise_first part parts r = recursion_from_All (λ (other : Part). part.stripe < other.stripe) parts (λ k d below. r 0 (suc k) d (omega arith) (omega (arith, below)))
 
-pub rise_rest : (part : Part) (parts : List Part) → Rise (part ∷ parts) → Rise parts
+pub rise_rest : (part : Part) (parts : List Part) → StripesRise (part ∷ parts) → StripesRise parts
 rise_rest part parts r = λ i j d lt below. r (suc i) (suc j) d (omega (arith, lt)) (omega (arith, below))
 
 elsewhere_all : (stripe : ℕ) (parts : List Part) → Each (λ other. stripe < other.stripe) parts → AreElsewhere stripe parts
@@ -23,7 +25,7 @@ elsewhere_all stripe [] a = tt
 elsewhere_all stripe (part ∷ parts) a = let lt = a.0 in ((λ e. omega arith), elsewhere_all stripe parts a.1)
 
 -- stripes that rise differ
-pub differ : (parts : List Part) → Rise parts → StripesDiffer parts
+pub differ : (parts : List Part) → StripesRise parts → StripesDiffer parts
 differ [] r = tt
 differ (part ∷ parts) r = (elsewhere_all part.stripe parts (rise_first part parts r), differ parts (rise_rest part parts r))
 
@@ -58,7 +60,7 @@ last_more part next parts =
     ap (slice_get (part ∷ (next ∷ parts))) one ∙ ap (slice_get (next ∷ parts)) other
 
 -- the last part is of the highest stripe
-pub highest : (parts : List Part) (last : Part) → Rise parts → last_of parts ≡ Some last → Each (λ part. part.stripe ≤ last.stripe) parts
+pub highest : (parts : List Part) (last : Part) → StripesRise parts → last_of parts ≡ Some last → Each (λ part. part.stripe ≤ last.stripe) parts
 highest [] last r is = tt
 highest (part ∷ []) last r is = (omega (arith, ap stripe_in is), tt)
   where

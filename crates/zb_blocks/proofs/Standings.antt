@@ -6,7 +6,7 @@ use Rattle.zb_types.specs.declared.ids.LogId.{LogId}
 use Rattle.zb_types.specs.declared.ids.Ptr.{Ptr}
 use Rattle.zb_holding.specs.Fragments.{Fragment, share_fragment, parity_fragment}
 use Rattle.zb_holding.specs.Placing.{share_length, share_of}
-use Rattle.zb_holding.specs.Holding.{Maps, share_bytes, Begins, StripeHolds, standing, away_at}
+use Rattle.zb_holding.specs.Holding.{Maps, share_bytes, Begins, StripeHolds, standing, away_at, view_of}
 use Rattle.zb_holding.proofs.Shares.{length-share_of}
 use Rattle.zb_stripe.specs.declared.read.Got.{Got}
 use Rattle.zb_stripe.specs.declared.read.Got.TheVariants as got
@@ -19,7 +19,7 @@ use Rattle.zb_blocks.proofs.Joining.{shares_are, shares_none}
 -- a stripe holds these bytes up to its committed end
 abbrev pub Holds : SeenBlocks → ℕ → List ℕ → Type 0
 Holds blocks stripe bytes =
-    StripeHolds blocks.servers blocks.fragment (maps_of blocks.kept) None blocks_log stripe (end_of blocks stripe) bytes
+    StripeHolds (view_of blocks.servers blocks.fragment (maps_of blocks.kept) None) blocks_log stripe (end_of blocks stripe) bytes
 
 pub contents_held : (blocks : SeenBlocks) (stripe : ℕ) (bytes : List ℕ) → Holds blocks stripe bytes → contents_of blocks stripe ≡ take (end_of blocks stripe) bytes
 contents_held blocks stripe bytes h =
@@ -62,7 +62,7 @@ within_stripe blocks hold ptr s =
 -- what the servers hold of the stripe of a stored address
 pub record HeldAt (blocks : SeenBlocks) (ptr : Ptr) : Type 0 where
   pub bytes : List ℕ
-  pub held : StripeHolds blocks.servers blocks.fragment (maps_of blocks.kept) None ptr.log ptr.stripe (end_of blocks ptr.stripe) bytes
+  pub held : StripeHolds (view_of blocks.servers blocks.fragment (maps_of blocks.kept) None) ptr.log ptr.stripe (end_of blocks ptr.stripe) bytes
   pub first : contents_of blocks ptr.stripe ≡ take (end_of blocks ptr.stripe) bytes
 
 pub held_at : (blocks : SeenBlocks) → StripesHold blocks → (ptr : Ptr) → IsStored blocks ptr → HeldAt blocks ptr
@@ -72,7 +72,7 @@ held_at blocks hold ptr s =
     let h = hold None ptr.stripe (omega arith) in
     record {
       bytes = h.bytes;
-      held = subst (λ (z : LogId). StripeHolds blocks.servers blocks.fragment (maps_of blocks.kept) None z ptr.stripe (end_of blocks ptr.stripe) h.bytes) (sym s.log) h.held;
+      held = subst (λ (z : LogId). StripeHolds (view_of blocks.servers blocks.fragment (maps_of blocks.kept) None) z ptr.stripe (end_of blocks ptr.stripe) h.bytes) (sym s.log) h.held;
       first = h.first;
     }
 
@@ -87,8 +87,8 @@ has_bytes (Some (share_fragment stands)) bytes n b le long =
 has_bytes (Some (parity_fragment lengths parity)) bytes n b le long = absurd b
 
 -- a stripe that is committed up to its last byte stands up to there
-pub stands_up_to : (n f : ℕ) (maps : Maps) (log : LogId) (stripe : ℕ) (bytes : List ℕ) → StripeHolds n f maps None log stripe (length bytes) bytes
-    → StandsUpTo n f maps None log stripe (length bytes)
+pub stands_up_to : (n f : ℕ) (maps : Maps) (log : LogId) (stripe : ℕ) (bytes : List ℕ) → StripeHolds (view_of n f maps None) log stripe (length bytes) bytes
+    → StandsUpTo (view_of n f maps None) log stripe (length bytes)
 stands_up_to n f maps log stripe bytes h k below looked =
     let s = h.shares k below looked in
     has_bytes (standing n maps log stripe k) (share_of f bytes k) (share_length f (length bytes) k) s.begins s.reaches (length-share_of f bytes k)

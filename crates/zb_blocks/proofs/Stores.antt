@@ -1,12 +1,12 @@
 -- Blocks that were put.
-use Rattle.std.proofs.Common.{◌≡◌, ℕ, ◌+◌, ◌<◌, ◌≤◌, List, [], ◌∷◌, ◌++◌, length, take, drop, Option, Some, None, refl, sym, ap, subst, ◌∙◌, inl, inr, arith}
+use Rattle.std.proofs.Common.{◌≡◌, ◌-◌, ◌*◌, ℕ, ◌+◌, ◌<◌, ◌≤◌, List, [], ◌∷◌, ◌++◌, length, take, drop, Option, Some, None, refl, sym, ap, subst, ◌∙◌, inl, inr, arith}
 use Rattle.std.specs.Prelude.{All, Any, slice_index}
 use Rattle.std.specs.List.{AllZip}
 use Rattle.std.proofs.lemmas.List.{take_all, length-take, length-drop}
 use Rattle.std.proofs.lemmas.List.Elements.{All-from_recursion}
 use Rattle.zb_types.specs.declared.ids.LogId.{LogId}
 use Rattle.zb_types.specs.declared.ids.Ptr.{Ptr}
-use Rattle.zb_holding.specs.Holding.{Maps, StripeHolds}
+use Rattle.zb_holding.specs.Holding.{Maps, StripeHolds, view_of}
 use Rattle.zb_holding.specs.Carrying.{carried_all}
 use Rattle.zb_stripe.specs.declared.flush.Part.{Part}
 use Rattle.zb_stripe.specs.declared.flush.Flush.{Flush}
@@ -14,36 +14,38 @@ use Rattle.zb_stripe.specs.Writing.{IsWritable}
 use Rattle.zb_stripe_laws.specs.PartAtWork.{MayBegin, AreElsewhere, StripesDiffer}
 use Rattle.zb_stripe_laws.proofs.Working.{others_elsewhere}
 use Rattle.zb_log.specs.declared.places.Place.{Place}
+use Rattle.zb_log.specs.declared.placed.Placed.{Placed}
 use Rattle.zb_log.specs.Placing.{last_stripe}
 use Rattle.zb_log.specs.Sealing.{StandEach, StandsIn}
-use Rattle.zb_log.specs.Logs.{SeenLog, with_last}
+use Rattle.zb_log.specs.Places.{place}
+use Rattle.zb_log.specs.Logs.{SeenLog, last_of, end_with, bytes_with, gone_on}
 use Rattle.zb_plain.specs.Standing.{Entries, maps_of}
 use Rattle.zb_plain.specs.Delivering.{IsBegun}
 use Rattle.zb_blocks.specs.Blocks.{SeenBlocks, IsSound, LogStands, LogFits, blocks_log, end_of, contents_of, stored_at, IsStored, IsAt, Extends}
-use Rattle.zb_blocks.specs.Flushing.{last_of, IsFlushed, end_after}
+use Rattle.zb_blocks.specs.Flushing.{IsFlushed, end_after}
 use Rattle.zb_blocks.proofs.Standings.{Holds, EachHolds, each_holds, stripes_hold, contents_held, same_stored}
 use Rattle.zb_blocks.proofs.Parts.{Each, differ, Among, find, at_part, at_index, highest, last_among, none_last, elsewhere_above, end_elsewhere, end_among}
 use Rattle.zb_blocks.proofs.Addresses.{IsOf, IsGoing, going}
 use Rattle.zb_blocks.proofs.Beginnings.{Next, each_to, begins_or_goes_on, may_begin, is_writable}
 use Rattle.zb_blocks.proofs.Keeping.{Plan, KeepsStripes, all_begun, stays_held, stays_free, stays_indexed}
 
-module _ (old : SeenBlocks) (s : IsSound old) (blocks : List (List ℕ)) (ptrs : List Ptr) (flush : Flush) (log : SeenLog) (went : IsFlushed old.log blocks ptrs flush log) where
-  abbrev Going : IsGoing old.log blocks ptrs flush
-  Going = going old.log blocks ptrs flush log went
+module _ (old : SeenBlocks) (s : IsSound old) (blocks : List (List ℕ)) (placed : Placed) (flush : Flush) (went : IsFlushed old.log blocks placed flush) where
+  abbrev Going : IsGoing old.log blocks placed.ptrs flush
+  Going = going old.log blocks placed flush went
 
   -- what a commit asks of the parts
-  pub parts_fit : All (IsWritable old.servers old.fragment) flush.parts
-  parts_fit = All-from_recursion (IsWritable old.servers old.fragment) flush.parts (each_to (Next old s) (IsWritable old.servers old.fragment) flush.parts (is_writable old s) Going.each)
+  pub parts_fit : All (IsWritable ((old.servers - 1) * old.fragment)) flush.parts
+  parts_fit = All-from_recursion (IsWritable ((old.servers - 1) * old.fragment)) flush.parts (each_to (Next old s) (IsWritable ((old.servers - 1) * old.fragment)) flush.parts (is_writable old s) Going.each)
 
   pub parts_differ : StripesDiffer flush.parts
   parts_differ = differ flush.parts Going.rise
 
-  pub parts_begin : All (MayBegin old.servers old.fragment (maps_of old.kept) None flush.log) flush.parts
+  pub parts_begin : All (MayBegin (view_of old.servers old.fragment (maps_of old.kept) None) flush.log) flush.parts
   parts_begin =
       let log_is = went.log_is ∙ s.log_fits.log in
-      subst (λ (z : LogId). All (MayBegin old.servers old.fragment (maps_of old.kept) None z) flush.parts) (sym log_is)
-      (All-from_recursion (MayBegin old.servers old.fragment (maps_of old.kept) None blocks_log) flush.parts
-      (each_to (Next old s) (MayBegin old.servers old.fragment (maps_of old.kept) None blocks_log) flush.parts (may_begin old s) Going.each))
+      subst (λ (z : LogId). All (MayBegin (view_of old.servers old.fragment (maps_of old.kept) None) z) flush.parts) (sym log_is)
+      (All-from_recursion (MayBegin (view_of old.servers old.fragment (maps_of old.kept) None) blocks_log) flush.parts
+      (each_to (Next old s) (MayBegin (view_of old.servers old.fragment (maps_of old.kept) None) blocks_log) flush.parts (may_begin old s) Going.each))
 
   pub parts_last : All (λ part. part.stripe ≤ last_stripe) flush.parts
   parts_last = All-from_recursion (λ (part : Part). part.stripe ≤ last_stripe) flush.parts (each_to (Next old s) (λ part. part.stripe ≤ last_stripe) flush.parts (λ part next. next.lasting) Going.each)
@@ -58,10 +60,10 @@ module _ (old : SeenBlocks) (s : IsSound old) (blocks : List (List ℕ)) (ptrs :
     begun = all_begun old.servers old.fragment (maps_of old.kept) (maps_of kept) flush carried
 
     abbrev pub put : SeenBlocks
-    put = record old { log = log; kept = kept; ends = ends }
+    put = record old { log = gone_on old.log placed.next flush.parts; kept = kept; ends = ends }
 
     held_elsewhere : (stripe end : ℕ) (bytes : List ℕ) → AreElsewhere stripe flush.parts
-        → StripeHolds old.servers old.fragment (maps_of old.kept) None blocks_log stripe end bytes → StripeHolds old.servers old.fragment (maps_of kept) None blocks_log stripe end bytes
+        → StripeHolds (view_of old.servers old.fragment (maps_of old.kept) None) blocks_log stripe end bytes → StripeHolds (view_of old.servers old.fragment (maps_of kept) None) blocks_log stripe end bytes
     held_elsewhere = stays_held old.servers old.fragment (maps_of old.kept) (maps_of kept) flush blocks_log keeps begun
 
     same_end : (stripe : ℕ) → AreElsewhere stripe flush.parts → end_of put stripe ≡ end_of old stripe
@@ -75,17 +77,17 @@ module _ (old : SeenBlocks) (s : IsSound old) (blocks : List (List ℕ)) (ptrs :
         ∙ end_among first after part (slice_index old.ends part.stripe) others.1
 
     part_held : (first after : List Part) (part : Part) → flush.parts ≡ first ++ part ∷ after
-        → StripeHolds old.servers old.fragment (maps_of kept) None blocks_log part.stripe (length part.bytes) part.bytes
+        → StripeHolds (view_of old.servers old.fragment (maps_of kept) None) blocks_log part.stripe (length part.bytes) part.bytes
     part_held first after part is =
         let next = at_part (Next old s) first after part (subst (Each (Next old s)) is Going.each) in
-        subst (λ (ms : Maps). StripeHolds old.servers old.fragment ms None blocks_log part.stripe (length part.bytes) part.bytes) (sym carried)
+        subst (λ (ms : Maps). StripeHolds (view_of old.servers old.fragment ms None) blocks_log part.stripe (length part.bytes) part.bytes) (sym carried)
         (keeps.whole first after part is parts_differ (is_writable old s part next) (may_begin old s part next))
 
     part_contents : (first after : List Part) (part : Part) → flush.parts ≡ first ++ part ∷ after → contents_of put part.stripe ≡ part.bytes
     part_contents first after part is =
         let end = part_end first after part is in
         contents_held put part.stripe part.bytes
-        (subst (λ (z : ℕ). StripeHolds old.servers old.fragment (maps_of kept) None blocks_log part.stripe z part.bytes) (sym end) (part_held first after part is))
+        (subst (λ (z : ℕ). StripeHolds (view_of old.servers old.fragment (maps_of kept) None) blocks_log part.stripe z part.bytes) (sym end) (part_held first after part is))
         ∙ ap (λ (z : ℕ). take z part.bytes) end ∙ take_all (length part.bytes) part.bytes (omega arith)
 
     put_each_holds : EachHolds put
@@ -94,11 +96,11 @@ module _ (old : SeenBlocks) (s : IsSound old) (blocks : List (List ℕ)) (ptrs :
           | inl away ↦
               let end = same_end stripe away in
               let h = each_holds old s.stripes_hold stripe (omega (arith, end, some)) in
-              (h.0, subst (λ (z : ℕ). StripeHolds old.servers old.fragment (maps_of kept) None blocks_log stripe z h.0) (sym end) (held_elsewhere stripe (end_of old stripe) h.0 away h.1))
+              (h.0, subst (λ (z : ℕ). StripeHolds (view_of old.servers old.fragment (maps_of kept) None) blocks_log stripe z h.0) (sym end) (held_elsewhere stripe (end_of old stripe) h.0 away h.1))
           | inr a ↦ (
             a.part.bytes,
             subst (λ (z : ℕ). Holds put z a.part.bytes) a.at
-                (subst (λ (z : ℕ). StripeHolds old.servers old.fragment (maps_of kept) None blocks_log a.part.stripe z a.part.bytes) (sym (part_end a.before a.after a.part a.is)) (part_held a.before a.after a.part a.is)),
+                (subst (λ (z : ℕ). StripeHolds (view_of old.servers old.fragment (maps_of kept) None) blocks_log a.part.stripe z a.part.bytes) (sym (part_end a.before a.after a.part a.is)) (part_held a.before a.after a.part a.is)),
           )
         ]
 
@@ -114,7 +116,7 @@ module _ (old : SeenBlocks) (s : IsSound old) (blocks : List (List ℕ)) (ptrs :
         let below = stored.committed in
         let end = same_end ptr.stripe away in
         let h = each_holds old s.stripes_hold ptr.stripe (omega arith) in
-        let there = subst (λ (z : ℕ). StripeHolds old.servers old.fragment (maps_of kept) None blocks_log ptr.stripe z h.0) (sym end) (held_elsewhere ptr.stripe (end_of old ptr.stripe) h.0 away h.1) in
+        let there = subst (λ (z : ℕ). StripeHolds (view_of old.servers old.fragment (maps_of kept) None) blocks_log ptr.stripe z h.0) (sym end) (held_elsewhere ptr.stripe (end_of old ptr.stripe) h.0 away h.1) in
         record {
           stored = omega arith;
           same = ap (λ (z : List ℕ). take ptr.len (drop ptr.offset z))
@@ -128,7 +130,7 @@ module _ (old : SeenBlocks) (s : IsSound old) (blocks : List (List ℕ)) (ptrs :
         let part = a.part in
         let there = ap (end_of old) a.at in
         let next = at_part (Next old s) a.before a.after part (subst (Each (Next old s)) a.is Going.each) in
-        let new = next.new in
+        let new = next.writable.new in
         let end : end_of put ptr.stripe ≡ length part.bytes = sym (ap (end_of put) a.at) ∙ part_end a.before a.after part a.is in
         elim (begins_or_goes_on old s part next) as (λ _. Stays ptr) [
           | inl on ↦
@@ -175,16 +177,16 @@ module _ (old : SeenBlocks) (s : IsSound old) (blocks : List (List ℕ)) (ptrs :
     put_at (p ∷ ps) [] each of = absurd each
     put_at (p ∷ ps) (b ∷ bs) each of = (stands_at p b each.0 of.0, put_at ps bs each.1 of.1)
 
-    pub blocks_at : AllZip (IsAt put) blocks ptrs
-    blocks_at = put_at ptrs blocks Going.stand Going.of
+    pub blocks_at : AllZip (IsAt put) blocks placed.ptrs
+    blocks_at = put_at placed.ptrs blocks Going.stand Going.of
 
     -- ---- the log
 
-    with_no_part : (next : Place) → last_of flush.parts ≡ None → LogStands (record put { log = record old.log { next = next } })
-    with_no_part next none =
+    with_no_part : last_of flush.parts ≡ None → LogStands (record put { log = old.log })
+    with_no_part none =
         let empty = none_last flush.parts none in
         let away = λ (stripe : ℕ). subst (AreElsewhere stripe) (sym empty) tt in
-        let at_work = old.log.at_work in
+        let at_work = old.log.next.stripe in
         let stands = s.log_stands in
         let free = λ (stripe : ℕ). stays_free old.servers old.fragment (maps_of old.kept) (maps_of kept) flush blocks_log keeps begun stripe (away stripe) in
         record {
@@ -195,13 +197,13 @@ module _ (old : SeenBlocks) (s : IsSound old) (blocks : List (List ℕ)) (ptrs :
           uncommitted = λ stripe lt. same_end stripe (away stripe) ∙ stands.uncommitted stripe lt;
         }
 
-    with_last_part : (next : Place) (last : Part) → last_of flush.parts ≡ Some last → LogStands (record put { log = record old.log { next = next; at_work = last.stripe; bytes = last.bytes } })
-    with_last_part next last is =
+    with_last_part : (last : Part) → last_of flush.parts ≡ Some last → LogStands (record put { log = record old.log { next = place last.stripe (length last.bytes); bytes = last.bytes } })
+    with_last_part last is =
         let split = last_among flush.parts last is in
         let own = at_part (Next old s) split.0 [] last (subst (Each (Next old s)) split.1 Going.each) in
         let low = highest flush.parts last Going.rise is in
         let from = own.above in
-        let new = own.new in
+        let new = own.writable.new in
         let stands = s.log_stands in
         let away = λ (stripe : ℕ) (lt : last.stripe < stripe). elsewhere_above stripe last.stripe flush.parts low lt in
         record {
@@ -212,18 +214,18 @@ module _ (old : SeenBlocks) (s : IsSound old) (blocks : List (List ℕ)) (ptrs :
           uncommitted = λ stripe lt. same_end stripe (away stripe lt) ∙ stands.uncommitted stripe (omega (arith, lt));
         }
 
-    log_with : (next : Place) (o : Option Part) → last_of flush.parts ≡ o → LogStands (record put { log = with_last (record old.log { next = next }) o })
-    log_with next None is = with_no_part next is
-    log_with next (Some last) is = with_last_part next last is
+    abbrev behind : Option Part → SeenLog
+    behind o = record old.log { next = end_with old.log.next o; bytes = bytes_with old.log.bytes o }
 
-    fits_with : (next : Place) (o : Option Part) → LogFits (record put { log = with_last (record old.log { next = next }) o })
-    fits_with next None = record { log = s.log_fits.log; room = s.log_fits.room; block = s.log_fits.block }
-    fits_with next (Some last) = record { log = s.log_fits.log; room = s.log_fits.room; block = s.log_fits.block }
+    log_with : (o : Option Part) → last_of flush.parts ≡ o → LogStands (record put { log = behind o })
+    log_with None is = with_no_part is
+    log_with (Some last) is = with_last_part last is
 
-    log_is : log ≡ with_last (record old.log { next = went.between.next }) (last_of flush.parts)
-    log_is =
-        let next = ap (λ (z : SeenLog). z.next) went.is_placed.goes_on in
-        went.new_is ∙ ap (λ (z : SeenLog). with_last z (last_of flush.parts)) (went.is_placed.goes_on ∙ ap (λ (z : Place). record old.log { next = z }) (sym next))
+    fits_with : (o : Option Part) → LogFits (record put { log = behind o })
+    fits_with o = record { log = s.log_fits.log; room = s.log_fits.room; block = s.log_fits.block }
+
+    log_is : gone_on old.log placed.next flush.parts ≡ behind (last_of flush.parts)
+    log_is = ap (λ (z : Place). record old.log { next = z; bytes = bytes_with old.log.bytes (last_of flush.parts) }) (sym went.ends)
 
     pub put_sound : IsSound put
     put_sound =
@@ -233,6 +235,6 @@ module _ (old : SeenBlocks) (s : IsSound old) (blocks : List (List ℕ)) (ptrs :
           count = count ∙ s.count;
           indexed = stays_indexed old.servers old.fragment (maps_of old.kept) (maps_of kept) flush blocks_log keeps begun s.indexed;
           stripes_hold = stripes_hold put put_each_holds;
-          log_fits = subst (λ (z : SeenLog). LogFits (record put { log = z })) (sym log_is) (fits_with went.between.next (last_of flush.parts));
-          log_stands = subst (λ (z : SeenLog). LogStands (record put { log = z })) (sym log_is) (log_with went.between.next (last_of flush.parts) refl);
+          log_fits = subst (λ (z : SeenLog). LogFits (record put { log = z })) (sym log_is) (fits_with (last_of flush.parts));
+          log_stands = subst (λ (z : SeenLog). LogStands (record put { log = z })) (sym log_is) (log_with (last_of flush.parts) refl);
         }

@@ -5,7 +5,7 @@ use Rattle.zb_types.specs.declared.ids.LogId.{LogId}
 use Rattle.zb_types.specs.declared.ids.ServerId.{ServerId}
 use Rattle.zb_types.specs.declared.ids.Ptr.{Ptr}
 use Rattle.zb_holding.specs.Placing.{share_length}
-use Rattle.zb_holding.specs.Holding.{share_bytes, standing, StripeHolds, AreBytesOfStripe}
+use Rattle.zb_holding.specs.Holding.{share_bytes, standing, StripeHolds, AreBytesOfStripe, view_of}
 use Rattle.zb_stripe_laws.specs.PartAtWork.{IsUnwritten}
 use Rattle.zb_log.specs.Logs.{SeenLog, laid_next}
 use Rattle.zb_plain.specs.Standing.{Entries, maps_of}
@@ -79,23 +79,23 @@ pub record HaveSameSizes (old new : SeenBlocks) : Type 0 where
 -- whichever server is missing, and with none missing, the servers hold the committed bytes of each stripe
 abbrev pub StripesHold : SeenBlocks → Type 0
 StripesHold blocks = (missing : Option ServerId) (stripe : ℕ) → 0 < end_of blocks stripe
-    → AreBytesOfStripe blocks.servers blocks.fragment (maps_of blocks.kept) missing blocks_log stripe
+    → AreBytesOfStripe (view_of blocks.servers blocks.fragment (maps_of blocks.kept) missing) blocks_log stripe
     (end_of blocks stripe) (contents_of blocks stripe)
 
 -- nothing stands of a stripe
 abbrev pub IsFree : SeenBlocks → ℕ → Type 0
-IsFree blocks stripe = IsUnwritten blocks.servers (maps_of blocks.kept) None blocks_log stripe
+IsFree blocks stripe = IsUnwritten (view_of blocks.servers blocks.fragment (maps_of blocks.kept) None) blocks_log stripe
 
 -- the bytes that the log gave of the stripe at work are committed and stand, with nothing behind them, and of the
 -- stripes above nothing stands
 pub record LogStands (blocks : SeenBlocks) : Type 0 where
-  pub end : end_of blocks blocks.log.at_work ≡ length blocks.log.bytes
+  pub end : end_of blocks blocks.log.next.stripe ≡ length blocks.log.bytes
   pub stand : 0 < length blocks.log.bytes
-      → StripeHolds blocks.servers blocks.fragment (maps_of blocks.kept) None blocks_log blocks.log.at_work
+      → StripeHolds (view_of blocks.servers blocks.fragment (maps_of blocks.kept) None) blocks_log blocks.log.next.stripe
       (length blocks.log.bytes) blocks.log.bytes
-  pub fresh : length blocks.log.bytes ≡ 0 → IsFree blocks blocks.log.at_work
-  pub above : (stripe : ℕ) → blocks.log.at_work < stripe → IsFree blocks stripe
-  pub uncommitted : (stripe : ℕ) → blocks.log.at_work < stripe → end_of blocks stripe ≡ 0
+  pub fresh : length blocks.log.bytes ≡ 0 → IsFree blocks blocks.log.next.stripe
+  pub above : (stripe : ℕ) → blocks.log.next.stripe < stripe → IsFree blocks stripe
+  pub uncommitted : (stripe : ℕ) → blocks.log.next.stripe < stripe → end_of blocks stripe ≡ 0
 
 -- the log is log 1, with the sizes of the servers
 pub record LogFits (blocks : SeenBlocks) : Type 0 where

@@ -1,34 +1,24 @@
 -- Blocks on their way from a log to the servers.
-use Rattle.std.specs.Prelude.{◌≡◌, ℕ, ◌-◌, ◌^◌, ◌<◌, ◌≤◌, ◌==◌, if◌then◌else◌, List, [], ◌∷◌, length, map, slice_get, Option, Some, None, AllPairs}
-use Rattle.std.specs.List.{concat}
+use Rattle.std.specs.Prelude.{◌≡◌, ℕ, ◌^◌, ◌<◌, ◌==◌, if◌then◌else◌, List, [], ◌∷◌, length, map, Option, Some, None, All}
+use Rattle.std.specs.List.{AllZip}
 use Rattle.zb_types.specs.declared.ids.Ptr.{Ptr}
 use Rattle.zb_stripe.specs.declared.flush.Part.{Part}
 use Rattle.zb_stripe.specs.declared.flush.Flush.{Flush}
+use Rattle.zb_stripe.specs.Writing.{StripesRise}
 use Rattle.zb_log.specs.declared.placed.Placed.{Placed}
-use Rattle.zb_log.specs.Placing.{last_stripe}
-use Rattle.zb_log.specs.Sealing.{parts_of}
-use Rattle.zb_log.specs.Logs.{SeenLog, IsPlaced, IsLast, with_last, renewed}
+use Rattle.zb_log.specs.Sealing.{GoesNext, StandEach}
+use Rattle.zb_log.specs.Logs.{SeenLog, IsPlaced, IsSealed, IsPtrIn, last_of, end_with, renewed}
 
--- the log has given the same bytes, whatever place it goes on at
-abbrev pub HasGivenSame : SeenLog → SeenLog → Type 0
-HasGivenSame old new = new ≡ record old { next = new.next }
-
--- the last of some parts
-abbrev pub last_of : List Part → Option Part
-last_of parts = slice_get parts (length parts - 1)
-
--- blocks went next into a log, which gave their addresses and the parts of their stripes
-pub record IsFlushed (old : SeenLog) (blocks : List (List ℕ)) (ptrs : List Ptr) (flush : Flush)
-    (new : SeenLog) : Type 0 where
-  pub placed : Placed
-  pub between : SeenLog
-  pub is_placed : IsPlaced old 0 (map length blocks) placed between
-  pub is_last : IsLast between 0 (map length blocks) placed
-  pub lasting : between.next.stripe ≤ last_stripe
-  pub ptrs_are : ptrs ≡ placed.ptrs
-  pub log_is : flush.log ≡ old.log
-  pub parts_are : flush.parts ≡ parts_of old.at_work old.bytes placed.pieces (concat blocks)
-  pub new_is : new ≡ with_last between (last_of flush.parts)
+-- blocks have their places next in a log, with their addresses and the parts of their stripes
+pub record IsFlushed (log : SeenLog) (blocks : List (List ℕ)) (placed : Placed) (flush : Flush) : Type 0 where
+  pub is_placed : IsPlaced log 0 (map length blocks) placed
+  pub is_sealed : IsSealed log placed flush
+  pub ptrs : AllZip (IsPtrIn log.log placed.pieces) placed.ptrs (map length blocks)
+  pub log_is : flush.log ≡ log.log
+  pub stand : StandEach flush.parts placed.ptrs blocks
+  pub each : All (GoesNext log.room log.next.stripe log.bytes) flush.parts
+  pub rise : StripesRise flush.parts
+  pub ends : end_with log.next (last_of flush.parts) ≡ placed.next
 
 -- the log goes on behind the stripe of a part, if there is one
 abbrev pub behind_part : SeenLog → Option Part → SeenLog
@@ -45,7 +35,3 @@ end_after (part ∷ parts) stripe was =
 pub record CanEnter (count : ℕ) (part : Part) : Type 0 where
   pub room : part.stripe < count
   pub range : length part.bytes < 2 ^ 32
-
--- each part is of a later stripe than the one before
-abbrev pub Rise : List Part → Type 0
-Rise parts = AllPairs (λ one other. one.stripe < other.stripe) parts

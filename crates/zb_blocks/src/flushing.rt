@@ -1,14 +1,15 @@
-ghost use Rattle.std.specs.Prelude.{◌≡◌, ℕ, ◌^◌, ◌<◌, ◌≤◌, None, All, IfOk, OnOk, OnErr, length, map, slice_index};
+ghost use Rattle.std.specs.Prelude.{◌≡◌, ℕ, ◌-◌, ◌*◌, ◌^◌, ◌<◌, ◌≤◌, None, All, IfOk, OnOk, OnErr, length, map, slice_index};
 ghost use Rattle.zb_holding.specs.Carrying.{carried_all};
-ghost use Rattle.zb_stripe.specs.Writing.{plan_requests, IsWritable};
+ghost use Rattle.zb_stripe.specs.Writing.{plan_requests, IsWritable, StripesRise};
 ghost use Rattle.zb_stripe_laws.specs.PartAtWork.{MayBegin, StripesDiffer};
 ghost use Rattle.zb_log.specs.Placing.{last_stripe, AreBlocks};
-ghost use Rattle.zb_plain.specs.Standing.{maps_of};
+ghost use Rattle.zb_log.specs.Logs.{last_of};
+ghost use Rattle.zb_plain.specs.Standing.{maps_of, seen_at};
 ghost use Rattle.zb_plain.specs.Delivering.{IsBegun};
-ghost use Rattle.zb_blocks.specs.Flushing.{HasGivenSame, last_of, IsFlushed, behind_part, end_after, CanEnter, Rise};
+ghost use Rattle.zb_blocks.specs.Flushing.{IsFlushed, behind_part, end_after, CanEnter};
 
 use std::alloc::Global;
-use zb_log::{LogBuf, PtrList};
+use zb_log::{LogBuf, Placed};
 use zb_plain::PlainServers;
 use zb_stripe::{Flush, Part};
 use zb_types::{ByteList, Class, Geometry, Mem, NoMemory};
@@ -25,12 +26,11 @@ fn lengths(alloc: Global, blocks: &[ByteList]) -> Mem<Vec<u32>>
     Ok(lens)
 }
 
-/// Puts blocks next into a log, one behind the other, and gives their addresses and the parts of their stripes.
-pub(crate) fn flush(log: &mut LogBuf, alloc: Global, blocks: &[ByteList]) -> Mem<(PtrList, Flush)>
-    requires small { log.old.block < 2 ^ 32 }
-    requires sizes { AreBlocks log.old.block (map length blocks.now) }
-    ensures ok { IfOk result (λ made. IsFlushed log.old blocks.now made.0 made.1 log.new) }
-    ensures err { OnErr result (HasGivenSame log.old log.new) }
+/// Places blocks next in a log, one behind the other, and gives their addresses and the parts of their stripes.
+pub(crate) fn flush(log: &LogBuf, alloc: Global, blocks: &[ByteList]) -> Mem<(Placed, Flush)>
+    requires small { log.now.block < 2 ^ 32 }
+    requires sizes { AreBlocks log.now.block (map length blocks.now) }
+    ensures { IfOk result (λ made. IsFlushed log.now blocks.now made.0 made.1) }
 {
     let lens = lengths(alloc, blocks)?;
     let meta = ByteList::new(alloc)?;
@@ -38,7 +38,7 @@ pub(crate) fn flush(log: &mut LogBuf, alloc: Global, blocks: &[ByteList]) -> Mem
         return Err(NoMemory);
     };
     let flush = log.seal(alloc, &placed, &meta, blocks)?;
-    Ok((placed.ptrs, flush))
+    Ok((placed, flush))
 }
 
 /// Lets a log go on behind the last stripe of a flush.
@@ -83,10 +83,10 @@ pub(crate) fn commit(
     flush: &Flush,
 ) -> Mem<()>
     requires servers { length servers.old ≡ geo.now.servers }
-    requires fits { All (IsWritable geo.now.servers geo.now.fragment) flush.now.parts }
+    requires fits { All (IsWritable ((geo.now.servers - 1) * geo.now.fragment)) flush.now.parts }
     requires differ { StripesDiffer flush.now.parts }
-    requires rise { Rise flush.now.parts }
-    requires begin { All (MayBegin geo.now.servers geo.now.fragment (maps_of servers.old) None flush.now.log)
+    requires rise { StripesRise flush.now.parts }
+    requires begin { All (MayBegin (seen_at geo.now servers.old) flush.now.log)
         flush.now.parts }
     ensures ok { OnOk result (maps_of servers.new ≡ carried_all (maps_of servers.old)
         (plan_requests geo.now.servers geo.now.fragment None Class.Client flush.now)) }

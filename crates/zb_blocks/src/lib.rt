@@ -4,8 +4,6 @@
 mod flushing;
 mod laws;
 mod stored;
-#[cfg(test)]
-mod tests;
 
 pub use laws::blocks_stay;
 pub use stored::Blocks;

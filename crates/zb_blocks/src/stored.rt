@@ -84,9 +84,12 @@ impl Blocks {
         ensures stripes { StripesHold self.new }
     {
         plan_keeps_stripes();
-        let (ptrs, flush) = flush(&mut self.log, alloc, blocks)?;
+        let (placed, flush) = flush(&self.log, alloc, blocks)?;
         match commit(&mut self.servers, &mut self.ends, alloc, &self.geo, &flush) {
-            Ok(()) => Ok(ptrs),
+            Ok(()) => {
+                self.log.go_on(&placed, flush);
+                Ok(placed.ptrs)
+            }
             Err(NoMemory) => {
                 leave(&mut self.log, &flush);
                 Err(NoMemory)

@@ -45,6 +45,9 @@ impl Delta {
     pub fn write(&self, alloc: Global, to: &mut ByteList) -> Mem<()>
         ensures ok { OnOk result (to.new ≡ to.old ++ spelling_of_delta self.now) }
         ensures err { OnErr result (to.new ≡ to.old) }
+
+        // What was written is read back.
+        ensures room { OnOk result (IsDelta self.now) }
     {
         let mut text = ByteList::of(Vec::with_capacity(alloc, LENGTH)?);
         push_delta(alloc, &mut text, self)?;

@@ -8,6 +8,3 @@ mod writing;
 
 pub use delta::{Body, Delta, DeltaList};
 pub use laws::{deltas_are_prefix_free, deltas_have_one_length};
-
-#[cfg(test)]
-mod tests;

@@ -1,5 +1,5 @@
 ghost use Rattle.std.specs.Prelude.{◌≡◌, ◌++◌, OnOk};
-ghost use Rattle.zb_delta.specs.Spelling.{kind_of, body_of, ptr_text, old_text, body_text, spelling_of_delta};
+ghost use Rattle.zb_delta.specs.Spelling.{IsPtr, IsOld, IsBody, IsDelta, kind_of, body_of, ptr_text, old_text, body_text, spelling_of_delta};
 
 use crate::delta::{Body, Delta};
 use std::alloc::Global;
@@ -7,7 +7,8 @@ use zb_numbers::{append, push_u32, push_u64};
 use zb_types::{ByteList, Mem, NoMemory, Ptr};
 
 fn push_ptr(alloc: Global, to: &mut ByteList, ptr: &Ptr) -> Mem<()>
-    ensures { OnOk result (to.new ≡ to.old ++ ptr_text ptr.now) }
+    ensures text { OnOk result (to.new ≡ to.old ++ ptr_text ptr.now) }
+    ensures room { OnOk result (IsPtr ptr.now) }
 {
     push_u32(alloc, to, ptr.log.0)?;
     push_u64(alloc, to, ptr.stripe)?;
@@ -17,7 +18,8 @@ fn push_ptr(alloc: Global, to: &mut ByteList, ptr: &Ptr) -> Mem<()>
 
 // Writes 1 and the pointer, or zeros in their place.
 fn push_old(alloc: Global, to: &mut ByteList, old: &Option<Ptr>) -> Mem<()>
-    ensures { OnOk result (to.new ≡ to.old ++ old_text old.now) }
+    ensures text { OnOk result (to.new ≡ to.old ++ old_text old.now) }
+    ensures room { OnOk result (IsOld old.now) }
 {
     match old {
         None => append(alloc, to, &[0; 21]),
@@ -29,7 +31,8 @@ fn push_old(alloc: Global, to: &mut ByteList, old: &Option<Ptr>) -> Mem<()>
 }
 
 fn push_body(alloc: Global, to: &mut ByteList, body: &Body) -> Mem<()>
-    ensures { OnOk result (to.new ≡ to.old ++ body_text body.entry.now) }
+    ensures text { OnOk result (to.new ≡ to.old ++ body_text body.entry.now) }
+    ensures room { OnOk result (IsBody body.entry.now) }
 {
     push_u32(alloc, to, body.fid.0)?;
     push_u64(alloc, to, body.version)?;
@@ -58,7 +61,8 @@ fn parts_of(delta: &Delta) -> (u8, Body)
 
 /// Writes a delta at the end, or a part of it where memory runs out.
 pub(crate) fn push_delta(alloc: Global, to: &mut ByteList, delta: &Delta) -> Mem<()>
-    ensures { OnOk result (to.new ≡ to.old ++ spelling_of_delta delta.now) }
+    ensures text { OnOk result (to.new ≡ to.old ++ spelling_of_delta delta.now) }
+    ensures room { OnOk result (IsDelta delta.now) }
 {
     let (kind, body) = parts_of(delta);
     to.push(kind)?;

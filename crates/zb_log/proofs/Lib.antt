@@ -5,3 +5,4 @@ pub mod Placings
 pub mod Standing
 pub mod Parting
 pub mod Pointers
+pub mod Ends

@@ -1,11 +1,11 @@
 -- What is placed lies in order.
-use Rattle.std.proofs.Common.{ℕ, zero, suc, ◌+◌, ◌-◌, ◌<◌, ◌≤◌, ltb, List, [], ◌∷◌, ◌++◌, fold, sym, subst, arith}
+use Rattle.std.proofs.Common.{◌≡◌, ℕ, zero, suc, ◌+◌, ◌-◌, ◌<◌, ◌≤◌, ltb, List, [], ◌∷◌, ◌++◌, fold, refl, sym, subst, arith}
 use Rattle.std.proofs.lemmas.Bool.{cond_both, ltb-true}
 use Rattle.std.specs.List.{AllByRecursion}
 use Rattle.zb_types.specs.declared.ids.LogId.{LogId}
 use Rattle.zb_types.specs.declared.ids.Piece.{Piece}
 use Rattle.zb_log.specs.declared.places.Place.{Place}
-use Rattle.zb_log.specs.Places.{place, IsUpTo, piece_at, start_of, end_of, LiesBehind, InOrder}
+use Rattle.zb_log.specs.Places.{place, IsUpTo, piece_at, start_of, end_of, LiesBehind, BeginsNext, InOrder}
 use Rattle.zb_log.specs.Placing.{Laid, begun, between, pieces_of, turned, ready, moved, added, with_meta, with_block}
 use Rattle.zb_log.proofs.Steps.{ready_both, ready_room, ready_fits}
 
@@ -49,6 +49,8 @@ HasBytes piece = 0 < piece.len
 
 -- what was placed, from a place on
 pub record IsLaid (from : Place) (laid : Laid) : Type 0 where
+  pub begin : AllByRecursion (BeginsNext from) laid.left
+  pub starts : BeginsNext from (piece_at (place laid.next.stripe laid.start) 0)
   pub some : AllByRecursion HasBytes laid.left
   pub left : InOrder laid.room from laid.left (place laid.next.stripe laid.start)
   pub start : laid.start ≤ laid.next.offset
@@ -77,6 +79,19 @@ between_some stripe from to =
 pub pieces_some : (from : Place) (laid : Laid) → IsLaid from laid → AllByRecursion HasBytes (pieces_of laid)
 pieces_some from laid l = some_append laid.left (between laid.next.stripe laid.start laid.next.offset) l.some (between_some laid.next.stripe laid.start laid.next.offset)
 
+begin_append : (from : Place) (xs ys : List Piece) → AllByRecursion (BeginsNext from) xs → AllByRecursion (BeginsNext from) ys → AllByRecursion (BeginsNext from) (xs ++ ys)
+begin_append from [] ys a b = b
+begin_append from (x ∷ xs) ys a b = (a.0, begin_append from xs ys a.1 b)
+
+begin_between : (from : Place) (stripe start offset : ℕ) → BeginsNext from (piece_at (place stripe start) 0) → AllByRecursion (BeginsNext from) (between stripe start offset)
+begin_between from stripe start offset b =
+    cond_both (ltb start offset) (piece_at (place stripe start) (offset - start) ∷ []) [] (AllByRecursion (BeginsNext from))
+    (λ e. (record { stripe = b.stripe; here = b.here; later = b.later }, tt)) (λ e. tt)
+
+-- each piece begins where the one before ended, or at the start of a later stripe
+pub pieces_begin : (from : Place) (laid : Laid) → IsLaid from laid → AllByRecursion (BeginsNext from) (pieces_of laid)
+pieces_begin from laid l = begin_append from laid.left (between laid.next.stripe laid.start laid.next.offset) l.begin (begin_between from laid.next.stripe laid.start laid.next.offset l.starts)
+
 above_more : (low stripe from to : ℕ) (pieces : List Piece) → low < stripe → AllByRecursion (λ other. low < other.stripe) pieces → AllByRecursion (λ other. low < other.stripe) (pieces ++ between stripe from to)
 above_more low stripe from to [] lt a =
     cond_both (ltb from to) (piece_at (place stripe from) (to - from) ∷ []) [] (AllByRecursion (λ (other : Piece). low < other.stripe)) (λ e. (lt, tt)) (λ e. tt)
@@ -92,12 +107,23 @@ pub pieces_rise : (from : Place) (laid : Laid) → IsLaid from laid → Rises (p
 pieces_rise from laid l = rises_more laid.next.stripe laid.start laid.next.offset laid.left l.rises
 
 pub laid_begun : (log : LogId) (room : ℕ) (from : Place) → from.offset ≤ room → IsLaid from (begun log room from)
-laid_begun log room from le = record { some = tt; left = upto_refl from; start = omega arith; within = le; rises = tt }
+laid_begun log room from le = record {
+  begin = tt;
+  starts = record { stripe = omega arith; here = λ e. refl; later = λ lt. absurd (omega arith) };
+  some = tt;
+  left = upto_refl from;
+  start = omega arith;
+  within = le;
+  rises = tt;
+}
 
 laid_turned : (from : Place) (laid : Laid) → IsLaid from laid → IsLaid from (turned laid)
 laid_turned from laid l =
     let on : IsUpTo laid.next (place (laid.next.stripe + 1) 0) = record { stripe = omega arith; offset = λ e. absurd (omega arith) } in
+    let up = l.starts.stripe in
     record {
+      begin = pieces_begin from laid l;
+      starts = record { stripe = omega arith; here = λ e. absurd (omega arith); later = λ lt. refl };
       some = pieces_some from laid l;
       left = order_to laid.room (pieces_of laid) from laid.next (place (laid.next.stripe + 1) 0) (pieces_order from laid l) on;
       start = omega arith;
@@ -110,6 +136,8 @@ laid_ready from laid n l = ready_both (IsLaid from) laid n (λ h. l) (laid_turne
 
 pub laid_moved : (from : Place) (laid : Laid) (n : ℕ) → laid.next.offset + n ≤ laid.room → IsLaid from laid → IsLaid from (moved laid n)
 laid_moved from laid n fits l = record {
+  begin = l.begin;
+  starts = l.starts;
   some = l.some;
   left = l.left;
   start = omega arith;
@@ -121,7 +149,7 @@ pub laid_added : (from : Place) (laid : Laid) (n : ℕ) → n ≤ laid.room → 
 laid_added from laid n le l = laid_moved from (ready laid n) n (ready_fits laid n le) (laid_ready from laid n l)
 
 pub laid_block : (from : Place) (laid : Laid) (n : ℕ) → n ≤ laid.room → IsLaid from laid → IsLaid from (with_block laid n)
-laid_block from laid n le l = let a = laid_added from laid n le l in record { some = a.some; left = a.left; start = a.start; within = a.within; rises = a.rises }
+laid_block from laid n le l = let a = laid_added from laid n le l in record { begin = a.begin; starts = a.starts; some = a.some; left = a.left; start = a.start; within = a.within; rises = a.rises }
 
 pub laid_meta : (from : Place) (laid : Laid) (n : ℕ) → 0 < laid.room → IsLaid from laid → IsLaid from (with_meta laid n)
 laid_meta from laid zero some l = l

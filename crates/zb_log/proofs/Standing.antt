@@ -1,20 +1,20 @@
 -- The blocks of a placed batch stand at their addresses in its parts.
 use Rattle.std.proofs.Common.{◌≡◌, ℕ, suc, ◌+◌, ◌-◌, ◌<◌, ◌≤◌, Bool, false, cond, eqb, ltb, List, [], ◌∷◌, ◌++◌, length, take, drop, map, fold, ◌⊎◌, inl, inr, refl, sym, ap, subst, ◌∙◌, append_assoc, arith}
-use Rattle.std.specs.Prelude.{replicate, Any}
+use Rattle.std.specs.Prelude.{Any}
 use Rattle.std.specs.List.{AllZip, AllByRecursion, concat}
-use Rattle.std.proofs.lemmas.Bool.{cond_both, eqb-true, ltb-true, lt-ltb}
-use Rattle.std.proofs.lemmas.List.{append-nil, drop-drop, take_all, take_at, drop_at, take-append-le, drop-append-le, length-append, length-drop, length-replicate}
+use Rattle.std.proofs.lemmas.Bool.{cond_both, cases_eq, eq-eqb, ne_eqb, ltb-true, lt-ltb}
+use Rattle.std.proofs.lemmas.List.{append-nil, drop-drop, take_all, take_at, drop_at, take-append-le, drop-append-le, length-append, length-drop}
 use Rattle.std.proofs.lemmas.Slice.Zip.{all_zipped_more}
 use Rattle.zb_types.specs.declared.ids.LogId.{LogId}
 use Rattle.zb_types.specs.declared.ids.Piece.{Piece}
 use Rattle.zb_types.specs.declared.ids.Ptr.{Ptr}
 use Rattle.zb_stripe.specs.declared.flush.Part.{Part}
 use Rattle.zb_log.specs.declared.places.Place.{Place}
-use Rattle.zb_log.specs.Places.{place, IsUpTo, piece_at, ptr_at}
+use Rattle.zb_log.specs.Places.{place, BeginsNext, piece_at, ptr_at}
 use Rattle.zb_log.specs.Placing.{Laid, begun, between, pieces_of, turned, ready, moved, added, with_meta, with_block}
 use Rattle.zb_log.specs.Sealing.{part_of, given_of, parts_of, StandsIn, StandEach}
 use Rattle.zb_log.proofs.Steps.{ready_both, ready_room, ready_fits}
-use Rattle.zb_log.proofs.Order.{IsLaid, upto_trans, order_rises, laid_begun, laid_ready, laid_moved, laid_block}
+use Rattle.zb_log.proofs.Order.{IsLaid, laid_begun, laid_ready, laid_moved, laid_block}
 
 -- how many bytes pieces have
 abbrev pub lens_of : List Piece → ℕ
@@ -33,7 +33,7 @@ lens_between stripe from to =
     not_below : (a b : ℕ) → ltb a b ≡ false → 0 ≡ b - a
     not_below a b e = grind arith
 
-between_some : (stripe from to : ℕ) → from < to → between stripe from to ≡ piece_at (place stripe from) (to - from) ∷ []
+pub between_some : (stripe from to : ℕ) → from < to → between stripe from to ≡ piece_at (place stripe from) (to - from) ∷ []
 between_some stripe from to lt = ap (λ (b : Bool). cond b (piece_at (place stripe from) (to - from) ∷ []) []) (lt-ltb from to lt)
 
 -- a block stands in a part, with what is before and behind it
@@ -118,23 +118,29 @@ module _ (w : ℕ) (given : List ℕ) where
       ∙ ap (λ (z : List Part). part_of (given_of w given x.stripe) x (take x.len new) ∷ z)
       (ap (parts xs) (drop-append-le x.len new more one) ∙ parts_more xs (drop x.len new) more (omega (arith, length-drop x.len new)))
 
-  -- the bytes that were given of a stripe end before a place behind them
-  pub given_short : (stripe start : ℕ) → IsUpTo (place w (length given)) (place stripe start) → length (given_of w given stripe) ≤ start
-  given_short stripe start le =
-      cond_both (eqb stripe w) given [] (λ (z : List ℕ). length z ≤ start) (λ e. let same = eqb-true stripe w e in omega (arith, le.offset (sym same))) (λ e. omega arith)
+  -- a range that begins next begins at the end of the bytes of its stripe
+  pub given_long : (from : Place) (range : Piece) → from.stripe ≡ w → length given ≡ from.offset → BeginsNext from range → length (given_of w given range.stripe) ≡ range.offset
+  given_long from range at long b =
+      elim (cases_eq range.stripe w) as (λ _. length (given_of w given range.stripe) ≡ range.offset) [
+        | inl here ↦
+            let start = b.here (here ∙ sym at) in
+            ap (λ (z : Bool). length (cond z given [])) (eq-eqb range.stripe w here) ∙ long ∙ sym start
+        | inr other ↦
+            let up = b.stripe in
+            let above : from.stripe < range.stripe = omega (arith, other, at, up) in
+            ap (λ (z : Bool). length (cond z given [])) (ne_eqb range.stripe w other) ∙ sym (b.later above)
+      ]
 
   -- the piece in the stripe at hand gets longer
   open_extends : (stripe start offset n : ℕ) (here more : List ℕ) → start ≤ offset → length here ≡ offset - start → length more ≡ n
       → Extends (parts (between stripe start offset) here) (parts (between stripe start (offset + n)) (here ++ more))
   open_extends stripe start offset n here more le long is =
       let before = given_of w given stripe in
-      let zeros : List ℕ = replicate (start - length before) 0 in
       let long2 : length (here ++ more) ≤ offset + n - start = omega (arith, length-append here more) in
-      let bytes : before ++ (zeros ++ take (offset + n - start) (here ++ more)) ≡ (before ++ (zeros ++ take (offset - start) here)) ++ more =
-      ap (λ (z : List ℕ). before ++ (zeros ++ z)) (take_all (offset + n - start) (here ++ more) long2)
-      ∙ ap (λ (z : List ℕ). before ++ z) (sym (append_assoc zeros here more))
-      ∙ sym (append_assoc before (zeros ++ here) more)
-      ∙ ap (λ (z : List ℕ). (before ++ (zeros ++ z)) ++ more) (sym (take_all (offset - start) here (omega arith))) in
+      let bytes : before ++ take (offset + n - start) (here ++ more) ≡ (before ++ take (offset - start) here) ++ more =
+      ap (λ (z : List ℕ). before ++ z) (take_all (offset + n - start) (here ++ more) long2)
+      ∙ sym (append_assoc before here more)
+      ∙ ap (λ (z : List ℕ). (before ++ z) ++ more) (sym (take_all (offset - start) here (omega arith))) in
       cond_both (ltb start offset) (piece_at (place stripe start) (offset - start) ∷ []) [] (λ (z : List Piece). Extends (parts z here) (parts (between stripe start (offset + n)) (here ++ more)))
       (λ e. let lt = ltb-true start offset e in
       subst (λ (z : List Piece). Extends (parts (piece_at (place stripe start) (offset - start) ∷ []) here) (parts z (here ++ more))) (sym (between_some stripe start (offset + n) (omega arith)))
@@ -142,22 +148,20 @@ module _ (w : ℕ) (given : List ℕ) where
       (λ e. tt)
 
   -- a block that is added stands at the end of that piece
-  open_sits : (log : LogId) (stripe start offset n : ℕ) (here block : List ℕ) → length (given_of w given stripe) ≤ start → start ≤ offset → length here ≡ offset - start → length block ≡ n → 0 < n
+  open_sits : (log : LogId) (stripe start offset n : ℕ) (here block : List ℕ) → length (given_of w given stripe) ≡ start → start ≤ offset → length here ≡ offset - start → length block ≡ n → 0 < n
       → SitsSome (parts (between stripe start (offset + n)) (here ++ block)) (ptr_at log (place stripe offset) n) block
   open_sits log stripe start offset n here block short le long is some =
       let before = given_of w given stripe in
-      let zeros : List ℕ = replicate (start - length before) 0 in
       let long2 : length (here ++ block) ≤ offset + n - start = omega (arith, length-append here block) in
       subst (λ (z : List Piece). SitsSome (parts z (here ++ block)) (ptr_at log (place stripe offset) n) block) (sym (between_some stripe start (offset + n) (omega arith)))
       (inl record {
         stripe = refl;
-        front = before ++ (zeros ++ here);
+        front = before ++ here;
         rest = [];
-        bytes = ap (λ (z : List ℕ). before ++ (zeros ++ z)) (take_all (offset + n - start) (here ++ block) long2)
-            ∙ ap (λ (z : List ℕ). before ++ z) (sym (append_assoc zeros here block))
-            ∙ sym (append_assoc before (zeros ++ here) block)
-            ∙ ap (λ (z : List ℕ). (before ++ (zeros ++ here)) ++ z) (sym (append-nil block));
-        at = omega (arith, length-append before (zeros ++ here), length-append zeros here, length-replicate {A = ℕ} (start - length before) 0);
+        bytes = ap (λ (z : List ℕ). before ++ z) (take_all (offset + n - start) (here ++ block) long2)
+            ∙ sym (append_assoc before here block)
+            ∙ ap (λ (z : List ℕ). (before ++ here) ++ z) (sym (append-nil block));
+        at = omega (arith, length-append before here);
         long = is;
       })
 
@@ -182,7 +186,7 @@ module _ (w : ℕ) (given : List ℕ) where
       ready_both (λ (z : Laid). IsLaid from z → IsGiven from z new blocks) laid n (λ h l. g) (λ l. given_turned from laid new blocks l g) (laid_ready from laid n g.lies)
 
   -- the parts of what was placed, with more bytes behind
-  module _ (from : Place) (behind_given : IsUpTo (place w (length given)) from) (laid : Laid) (new more : List ℕ) (blocks : List (List ℕ)) (g : IsGiven from laid new blocks) (n : ℕ) (long : length more ≡ n) where
+  module _ (from : Place) (at : from.stripe ≡ w) (whole : length given ≡ from.offset) (laid : Laid) (new more : List ℕ) (blocks : List (List ℕ)) (g : IsGiven from laid new blocks) (n : ℕ) (long : length more ≡ n) where
     abbrev here : List ℕ
     here = drop (lens_of laid.left) new
 
@@ -220,7 +224,7 @@ module _ (w : ℕ) (given : List ℕ) where
 
     moved_sits : (log : LogId) → 0 < n → SitsSome (parts (pieces_of (moved laid n)) (new ++ more)) (ptr_at log laid.next n) more
     moved_sits log some =
-        let short = given_short laid.next.stripe laid.start (upto_trans behind_given (order_rises laid.room laid.left from (place laid.next.stripe laid.start) g.lies.left)) in
+        let short = given_long from (piece_at (place laid.next.stripe laid.start) 0) at whole g.lies.starts in
         subst (λ (z : List Part). SitsSome z (ptr_at log laid.next n) more) (sym parts_now)
         (some_behind (parts laid.left new) (parts (between laid.next.stripe laid.start (laid.next.offset + n)) (here ++ more)) (ptr_at log laid.next n) more
         (open_sits log laid.next.stripe laid.start laid.next.offset n here more short g.lies.start here_long long some))
@@ -228,12 +232,12 @@ module _ (w : ℕ) (given : List ℕ) where
     pub moved_block : (log : LogId) → 0 < n → AllZip (SitsSome (parts (pieces_of (moved laid n)) (new ++ more))) (laid.ptrs ++ ptr_at log laid.next n ∷ []) (blocks ++ more ∷ [])
     moved_block log some = all_zipped_more (SitsSome (parts (pieces_of (moved laid n)) (new ++ more))) laid.ptrs blocks (ptr_at log laid.next n) more moved_each (moved_sits log some)
 
-  module _ (from : Place) (behind_given : IsUpTo (place w (length given)) from) where
+  module _ (from : Place) (at : from.stripe ≡ w) (whole : length given ≡ from.offset) where
     pub given_meta : (meta : List ℕ) (laid : Laid) (new : List ℕ) (blocks : List (List ℕ)) → 0 < laid.room → IsGiven from laid new blocks → IsGiven from (with_meta laid (length meta)) (new ++ meta) blocks
     given_meta [] laid new blocks some g = subst (λ (z : List ℕ). IsGiven from laid z blocks) (sym (append-nil new)) g
     given_meta (b ∷ meta) laid new blocks some g =
         let there = given_ready from laid 1 new blocks g in
-        let next = given_moved from behind_given (ready laid 1) new (b ∷ []) blocks there 1 refl (ready_fits laid 1 some) in
+        let next = given_moved from at whole (ready laid 1) new (b ∷ []) blocks there 1 refl (ready_fits laid 1 some) in
         subst (λ (z : List ℕ). IsGiven from (with_meta (added laid 1) (length meta)) z blocks) (append_assoc new (b ∷ []) meta)
         (given_meta meta (added laid 1) (new ++ b ∷ []) blocks (subst (λ (z : ℕ). 0 < z) (sym (ready_room laid 1)) some) next)
 
@@ -244,12 +248,12 @@ module _ (w : ℕ) (given : List ℕ) where
         → IsGiven from (with_block laid n) (new ++ block) (blocks ++ block ∷ [])
     given_block laid new blocks block n long some le g =
         let there = given_ready from laid n new blocks g in
-        let next = given_moved from behind_given (ready laid n) new block blocks there n long (ready_fits laid n le) in
+        let next = given_moved from at whole (ready laid n) new block blocks there n long (ready_fits laid n le) in
         record {
           lies = laid_block from laid n le g.lies;
           long = next.long;
           each = subst (λ (z : List Ptr). AllZip (SitsSome (parts (pieces_of (added laid n)) (new ++ block))) (z ++ ptr_at laid.log (ready laid n).next n ∷ []) (blocks ++ block ∷ [])) (ready_ptrs laid n)
-              (moved_block from behind_given (ready laid n) new block blocks there n long laid.log some);
+              (moved_block from at whole (ready laid n) new block blocks there n long laid.log some);
         }
 
     pub given_blocks : (more : List (List ℕ)) (laid : Laid) (new : List ℕ) (blocks : List (List ℕ)) → AllByRecursion (λ n. (1 ≤ n) × (n ≤ laid.room)) (map length more) → IsGiven from laid new blocks

@@ -36,9 +36,11 @@ turned laid = record laid { left = pieces_of laid; start = 0; next = place (laid
 abbrev pub ready : Laid → ℕ → Laid
 ready laid n = if nat_le (laid.next.offset + n) laid.room then laid else turned laid
 
+-- n bytes go at the place at hand
 abbrev pub moved : Laid → ℕ → Laid
 moved laid n = record laid { next = behind laid.next n }
 
+-- n bytes that stay together go next
 abbrev pub added : Laid → ℕ → Laid
 added laid n = moved (ready laid n) n
 
@@ -54,6 +56,23 @@ with_block laid n = record (added laid n) { ptrs = laid.ptrs ++ ptr_at laid.log 
 -- a batch: its meta part, then each block
 abbrev pub with_batch : Laid → ℕ → List ℕ → Laid
 with_batch laid meta blocks = fold with_block (with_meta laid meta) blocks
+
+-- where n bytes that stay together go, from a place on
+abbrev pub room_at : ℕ → Place → ℕ → Place
+room_at room at n = if nat_le (at.offset + n) room then at else place (at.stripe + 1) 0
+
+-- the place behind n bytes that stay together
+abbrev pub behind_room : ℕ → Place → ℕ → Place
+behind_room room at n = behind (room_at room at n) n
+
+-- the place behind a meta part
+abbrev pub meta_end : ℕ → Place → ℕ → Place
+meta_end room at zero = at
+meta_end room at (suc n) = meta_end room (behind_room room at 1) n
+
+-- the place behind blocks
+abbrev pub blocks_end : ℕ → Place → List ℕ → Place
+blocks_end room at lens = fold (behind_room room) at lens
 
 -- the last stripe that a log may have, 2 ^ 48
 abbrev pub last_stripe : ℕ

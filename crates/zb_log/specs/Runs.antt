@@ -4,8 +4,8 @@ use Rattle.zb_types.specs.declared.ids.Piece.{Piece}
 use Rattle.zb_log.specs.declared.places.Place.{Place}
 use Rattle.zb_log.specs.Logs.{SeenLog, Gives, renewed}
 
--- what a call does to the addresses of a log: it gives those of some ranges, and none where it seals or fails, or it
--- gives those above a stripe back
+-- what a call does to the addresses of a log: going on gives those of some ranges, and going on behind a
+-- stripe gives those above it back
 pub data Step : Type 0 where
   gives : List Piece → Step
   goes_on_after : ℕ → Step

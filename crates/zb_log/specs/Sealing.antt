@@ -1,19 +1,17 @@
 -- The bytes of a placed batch, stripe by stripe.
-use Rattle.std.specs.Prelude.{◌≡◌, ℕ, ◌-◌, ◌<◌, ◌≤◌, ◌==◌, List, [], ◌∷◌, ◌++◌, length, take, drop, replicate, if◌then◌else◌, Any}
+use Rattle.std.specs.Prelude.{◌≡◌, ℕ, ◌≤◌, ◌==◌, List, [], ◌∷◌, ◌++◌, length, take, drop, if◌then◌else◌, Any}
 use Rattle.std.specs.List.{AllZip}
 use Rattle.zb_types.specs.declared.ids.Piece.{Piece}
 use Rattle.zb_types.specs.declared.ids.Ptr.{Ptr}
 use Rattle.zb_stripe.specs.declared.flush.Part.{Part}
+use Rattle.zb_stripe.specs.Writing.{IsWritable}
+use Rattle.zb_log.specs.Placing.{last_stripe}
 
--- all bytes of a piece's stripe: those that were given before, zeros where none were, and the new ones
+-- all bytes of a piece's stripe: those before the piece, and the new ones
 abbrev pub part_of : List ℕ → Piece → List ℕ → Part
-part_of before piece new = record {
-  stripe = piece.stripe;
-  begin = length before;
-  bytes = before ++ (replicate (piece.offset - length before) 0 ++ new);
-}
+part_of before piece new = record { stripe = piece.stripe; begin = length before; bytes = before ++ new }
 
--- the bytes of a stripe that were given before: none but of the stripe at work
+-- the bytes that a log has of a stripe: none but of the stripe at work
 abbrev pub given_of : ℕ → List ℕ → ℕ → List ℕ
 given_of at_work given stripe = if stripe == at_work then given else []
 
@@ -24,11 +22,11 @@ parts_of at_work given (piece ∷ pieces) new =
     part_of (given_of at_work given piece.stripe) piece (take piece.len new)
     ∷ parts_of at_work given pieces (drop piece.len new)
 
--- the pieces have their bytes, and each begins behind those that were given of its stripe
+-- the pieces have their bytes, and each begins at the end of those that the log has of its stripe
 abbrev pub HaveBytes : ℕ → List ℕ → List Piece → List ℕ → Type 0
 HaveBytes at_work given [] new = Unit {0}
 HaveBytes at_work given (piece ∷ pieces) new =
-    (piece.len ≤ length new) × (length (given_of at_work given piece.stripe) ≤ piece.offset)
+    (piece.len ≤ length new) × (length (given_of at_work given piece.stripe) ≡ piece.offset)
     × HaveBytes at_work given pieces (drop piece.len new)
 
 -- a block stands in a part, at its address
@@ -46,7 +44,10 @@ read_at [] parts = []
 read_at (piece ∷ pieces) [] = []
 read_at (piece ∷ pieces) (part ∷ parts) = take piece.len (drop piece.offset part.bytes) ++ read_at pieces parts
 
--- a part with new bytes, within the room of a stripe
-pub record HasNew (room : ℕ) (part : Part) : Type 0 where
-  pub new : part.begin < length part.bytes
-  pub within : length part.bytes ≤ room
+-- a part of a log's stripe at work or of a later one: new bytes behind those that the log has of it, within the room
+pub record GoesNext (room at_work : ℕ) (given : List ℕ) (part : Part) : Type 0 where
+  pub writable : IsWritable room part
+  pub begin : part.begin ≡ length (given_of at_work given part.stripe)
+  pub front : take part.begin part.bytes ≡ given_of at_work given part.stripe
+  pub above : at_work ≤ part.stripe
+  pub lasting : part.stripe ≤ last_stripe

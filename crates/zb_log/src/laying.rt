@@ -1,5 +1,4 @@
-ghost use Rattle.std.specs.Prelude.{◌≡◌, ◌+◌, ◌-◌, ◌<◌, ◌≤◌, All, OnOk, IfOk, IsErrOf, fold, []};
-ghost use Rattle.zb_log.specs.declared.placed.LogFault.TheVariants.{Worn};
+ghost use Rattle.std.specs.Prelude.{◌≡◌, ◌+◌, ◌-◌, ◌<◌, ◌≤◌, All, OnOk, IfOk, fold, []};
 ghost use Rattle.zb_log.specs.Places.{place, behind, ptr_at};
 ghost use Rattle.zb_log.specs.Placing.{
   Laid,
@@ -10,22 +9,20 @@ ghost use Rattle.zb_log.specs.Placing.{
   added,
   with_meta,
   with_block,
+  with_batch,
   last_stripe,
   AreBlocks,
 };
 
-use crate::placed::{LogFault, PieceList, Placed, PtrList};
+use crate::placed::{Placed, PtrList};
 use crate::places::Place;
 use std::alloc::Global;
 use std::marker::Model;
-use zb_types::{LogId, Mem, Piece, Ptr};
-
-/// The last stripe that a log may have.
-pub(crate) const LAST_STRIPE: u64 = 281_474_976_710_656;
+use zb_types::{LogId, Mem, Piece, PieceList, Ptr};
 
 /// A batch while it is placed. Contracts see what was placed so far.
 #[derive(Drop)]
-pub(crate) struct Laying {
+struct Laying {
     log: LogId,
     room: u32,
     left: Vec<Piece>,
@@ -55,7 +52,7 @@ impl Model for Laying {
 
 impl Laying {
     /// Nothing is placed yet.
-    pub(crate) fn new(alloc: Global, log: LogId, room: u32, from: Place) -> Mem<Laying>
+    fn new(alloc: Global, log: LogId, room: u32, from: Place) -> Mem<Laying>
         requires within { from.offset ≤ room }
         requires some { 0 < room }
         requires small { room ≤ 983040 }
@@ -89,13 +86,10 @@ impl Laying {
     }
 
     /// Leaves the stripe at hand.
-    fn turn(&mut self) -> Result<(), LogFault>
-        ensures ok { OnOk result (self.new ≡ turned self.old) }
-        ensures worn { IsErrOf result Worn → self.old.next.stripe ≡ last_stripe }
+    fn turn(&mut self) -> Mem<()>
+        requires { self.old.next.stripe < last_stripe }
+        ensures { OnOk result (self.new ≡ turned self.old) }
     {
-        if self.next.stripe == LAST_STRIPE {
-            return Err(LogFault::Worn);
-        }
         self.finish()?;
         self.start = 0;
         self.next = Place {
@@ -106,11 +100,11 @@ impl Laying {
     }
 
     /// Leaves the stripe at hand where `len` bytes don't fit into its rest.
-    fn make_ready(&mut self, len: u32) -> Result<(), LogFault>
-        requires { len ≤ self.old.room }
+    fn make_ready(&mut self, len: u32) -> Mem<()>
+        requires fits { len ≤ self.old.room }
+        requires lasting { (ready self.old len).next.stripe ≤ last_stripe }
         ensures ok { OnOk result (self.new ≡ ready self.old len) }
         ensures fits { OnOk result (self.new.next.offset + len ≤ self.new.room) }
-        ensures worn { IsErrOf result Worn → last_stripe < (added self.old len).next.stripe }
     {
         if self.room - self.next.offset < len {
             self.turn()?;
@@ -119,10 +113,10 @@ impl Laying {
     }
 
     /// Places a block.
-    fn add_block(&mut self, len: u32) -> Result<(), LogFault>
-        requires { len ≤ self.old.room }
-        ensures ok { OnOk result (self.new ≡ with_block self.old len) }
-        ensures worn { IsErrOf result Worn → last_stripe < (with_block self.old len).next.stripe }
+    fn add_block(&mut self, len: u32) -> Mem<()>
+        requires fits { len ≤ self.old.room }
+        requires lasting { (with_block self.old len).next.stripe ≤ last_stripe }
+        ensures { OnOk result (self.new ≡ with_block self.old len) }
     {
         self.make_ready(len)?;
         self.ptrs.push(Ptr {
@@ -136,11 +130,11 @@ impl Laying {
     }
 
     /// Places as many of `len` bytes of a meta part as one stripe has room for, and answers how many are left.
-    fn fill(&mut self, len: u32) -> Result<u32, LogFault>
-        requires { 0 < len }
+    fn fill(&mut self, len: u32) -> Mem<u32>
+        requires some { 0 < len }
+        requires lasting { (with_meta self.old len).next.stripe ≤ last_stripe }
         ensures ok { IfOk result (λ left. with_meta self.new left ≡ with_meta self.old len) }
         ensures fewer { IfOk result (λ left. left < len) }
-        ensures worn { IsErrOf result Worn → last_stripe < (with_meta self.old len).next.stripe }
     {
         // Names a field, so that what holds of the fields is known here.
         let _ = &self.room;
@@ -151,9 +145,9 @@ impl Laying {
     }
 
     /// Places a meta part of `len` bytes.
-    pub(crate) fn add_meta(&mut self, len: u32) -> Result<(), LogFault>
-        ensures ok { OnOk result (self.new ≡ with_meta self.old len) }
-        ensures worn { IsErrOf result Worn → last_stripe < (with_meta self.old len).next.stripe }
+    fn add_meta(&mut self, len: u32) -> Mem<()>
+        requires { (with_meta self.old len).next.stripe ≤ last_stripe }
+        ensures { OnOk result (self.new ≡ with_meta self.old len) }
     {
         let mut left = len;
         while left > 0 {
@@ -163,11 +157,10 @@ impl Laying {
     }
 
     /// Places blocks.
-    pub(crate) fn add_blocks(&mut self, blocks: &[u32]) -> Result<(), LogFault>
-        requires { AreBlocks self.old.room blocks.now }
-        ensures ok { OnOk result (self.new ≡ fold with_block self.old blocks.now) }
-        ensures worn { IsErrOf result Worn
-            → last_stripe < (fold with_block self.old blocks.now).next.stripe }
+    fn add_blocks(&mut self, blocks: &[u32]) -> Mem<()>
+        requires fit { AreBlocks self.old.room blocks.now }
+        requires lasting { (fold with_block self.old blocks.now).next.stripe ≤ last_stripe }
+        ensures { OnOk result (self.new ≡ fold with_block self.old blocks.now) }
     {
         for len in blocks {
             self.add_block(*len)?;
@@ -176,17 +169,44 @@ impl Laying {
     }
 
     /// What was placed, and the place behind it.
-    pub(crate) fn into_placed(self) -> Mem<(Placed, Place)>
-        ensures pieces { IfOk result (λ found. found.0.pieces ≡ pieces_of self) }
-        ensures ptrs { IfOk result (λ found. found.0.ptrs ≡ self.ptrs) }
-        ensures next { IfOk result (λ found. found.1 ≡ self.next) }
+    fn into_placed(self) -> Mem<Placed>
+        ensures pieces { IfOk result (λ placed. placed.pieces ≡ pieces_of self) }
+        ensures ptrs { IfOk result (λ placed. placed.ptrs ≡ self.ptrs) }
+        ensures next { IfOk result (λ placed. placed.next ≡ self.next) }
     {
         let mut all = self;
         all.finish()?;
-        let placed = Placed {
+        Ok(Placed {
             pieces: PieceList::of(all.left),
             ptrs: PtrList::of(all.ptrs),
-        };
-        Ok((placed, all.next))
+            next: all.next,
+        })
     }
+}
+
+/// Places a batch that ends in a stripe that a log may have.
+pub(crate) fn lay(
+    alloc: Global,
+    log: LogId,
+    room: u32,
+    from: Place,
+    meta: u32,
+    blocks: &[u32],
+) -> Mem<Placed>
+    requires fit { AreBlocks room blocks.now }
+    requires some { 0 < room }
+    requires small { room ≤ 983040 }
+    requires within { from.offset ≤ room }
+    requires lasting { (with_batch (begun log room from) meta blocks.now).next.stripe ≤ last_stripe }
+    ensures pieces { IfOk result
+        (λ placed. placed.pieces ≡ pieces_of (with_batch (begun log room from) meta blocks.now)) }
+    ensures ptrs { IfOk result
+        (λ placed. placed.ptrs ≡ (with_batch (begun log room from) meta blocks.now).ptrs) }
+    ensures next { IfOk result
+        (λ placed. placed.next ≡ (with_batch (begun log room from) meta blocks.now).next) }
+{
+    let mut laying = Laying::new(alloc, log, room, from)?;
+    laying.add_meta(meta)?;
+    laying.add_blocks(blocks)?;
+    laying.into_placed()
 }

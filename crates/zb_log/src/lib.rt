@@ -10,8 +10,5 @@ mod sealing;
 
 pub use laws::no_address_twice;
 pub use log::LogBuf;
-pub use placed::{LogFault, PieceList, Placed, PtrList};
+pub use placed::{LogFault, Placed, PtrList};
 pub use places::Place;
-
-#[cfg(test)]
-mod tests;

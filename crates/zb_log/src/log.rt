@@ -1,30 +1,30 @@
-ghost use Rattle.std.specs.Prelude.{◌≡◌, ◌+◌, ◌-◌, ◌*◌, ◌<◌, ◌≤◌, ◌++◌, IfOk, OnOk, OnErr, IsOk, IsErrOf, All, AllPairs, IfSome, length, map, slice_get, []};
-ghost use Rattle.std.specs.Option.{option_copied};
-ghost use Rattle.std.specs.List.{concat};
+ghost use Rattle.std.specs.Prelude.{◌≡◌, ◌+◌, ◌-◌, ◌*◌, ◌<◌, ◌≤◌, ◌++◌, ◌↔◌, IfOk, IsErrOf, All, length, map, []};
+ghost use Rattle.std.specs.List.{AllZip, concat};
+ghost use Rattle.zb_stripe.specs.Writing.{StripesRise};
 ghost use Rattle.zb_log.specs.declared.placed.LogFault.TheVariants.{Worn};
-ghost use Rattle.zb_log.specs.Places.{place, range_of, InOrder};
+ghost use Rattle.zb_log.specs.Places.{place, range_of, BeginsNext, InOrder};
 ghost use Rattle.zb_log.specs.Placing.{last_stripe, AreBlocks, OneAStripe};
-ghost use Rattle.zb_log.specs.Sealing.{parts_of, read_at, StandEach, HasNew};
-ghost use Rattle.zb_log.specs.Logs.{SeenLog, IsSound, IsPlaced, IsLast, Gives, laid_next, behind_meta, with_last, GoesOnWith, renewed};
+ghost use Rattle.zb_log.specs.Sealing.{parts_of, read_at, StandEach, GoesNext};
+ghost use Rattle.zb_log.specs.Logs.{SeenLog, IsSound, IsPlaced, IsSealed, IsPtrIn, Gives, laid_next, behind_meta, last_of, end_with, gone_on, renewed};
 
-use crate::laying::{LAST_STRIPE, Laying};
+use crate::laying::lay;
 use crate::placed::{LogFault, Placed};
-use crate::places::Place;
-use crate::sealing::{joined, parts};
+use crate::places::{Place, goes_above};
+use crate::sealing::{joined, last_part, parts};
 use std::alloc::Global;
 use std::marker::Model;
-use zb_stripe::{Flush, Part, PartList};
+use zb_stripe::{Flush, PartList};
 use zb_types::{ByteList, Geometry, LogId, Mem};
 
 /// The log of a client or of the cleaner. Contracts see the room of a stripe, the most bytes of a block, the place
-/// that the log goes on at, and the stripe at work with the bytes that were given of it.
+/// that the log goes on at, and the bytes of its stripe up to there. A batch is placed and sealed before the log goes
+/// on behind it: until then the log is as it was, so that a batch is given up where memory runs out.
 #[derive(Drop)]
 pub struct LogBuf {
     log: LogId,
     room: u32,
     block: u32,
     next: Place,
-    at_work: u64,
     bytes: Vec<u8>,
 }
 
@@ -38,7 +38,6 @@ impl Model for LogBuf {
       room = a.room;
       block = a.block;
       next = a.next;
-      at_work = a.at_work;
       bytes = a.bytes.items;
     } };
 
@@ -47,7 +46,6 @@ impl Model for LogBuf {
       room = a.room;
       block = a.block;
       next = a.next;
-      at_work = a.at_work;
       bytes = a.bytes.items;
     }) };
 }
@@ -60,7 +58,6 @@ impl LogBuf {
           room = (geo.now.servers - 1) * geo.now.fragment;
           block = geo.now.block;
           next = place 0 0;
-          at_work = 0;
           bytes = [];
         }) }
     {
@@ -72,78 +69,55 @@ impl LogBuf {
                 stripe: 0,
                 offset: 0,
             },
-            at_work: 0,
             bytes: Vec::new(alloc),
         })
     }
 
-    /// Places a batch, by the lengths of its meta part and its blocks, in bytes. The meta part goes next in the
-    /// log, over the ends of stripes. Each block goes behind it, and to the next stripe where it doesn't fit into
-    /// the rest. `Worn` comes exactly where the place behind the batch would lie in a stripe above the last, 2 ^ 48.
-    pub fn place(&mut self, alloc: Global, meta: u32, blocks: &[u32]) -> Result<Placed, LogFault>
-        requires { AreBlocks self.old.block blocks.now }
-        ensures exact { IfOk result (λ placed. IsPlaced self.old meta blocks.now placed self.new) }
-
-        // No address is given twice.
-        ensures fresh { IfOk result (λ placed. Gives self.old placed.pieces self.new) }
-
-        // The blocks lie behind the meta part, each behind the one before, and none crosses a stripe.
-        ensures blocks { IfOk result (λ placed. InOrder self.old.room
-            (behind_meta self.old meta) (map range_of placed.ptrs) self.new.next) }
-        ensures one_a_stripe { IfOk result (λ placed. OneAStripe placed.pieces) }
+    /// Places a batch next in the log, by the lengths of its meta part and its blocks, in bytes. The meta part goes
+    /// over the ends of stripes. Each block goes behind it, and to the next stripe where it doesn't fit into the rest.
+    /// `Worn` comes exactly where the place behind the batch would lie in a stripe above the last, 2 ^ 48.
+    pub fn place(&self, alloc: Global, meta: u32, blocks: &[u32]) -> Result<Placed, LogFault>
+        requires { AreBlocks self.now.block blocks.now }
 
         // It may be sealed.
-        ensures last { IfOk result (λ placed. IsLast self.new meta blocks.now placed) }
-        ensures worn { IsErrOf result Worn
-            → last_stripe < (laid_next self.old meta blocks.now).next.stripe }
-        ensures not_worn { IsOk result
-            → (laid_next self.old meta blocks.now).next.stripe ≤ last_stripe }
-        ensures err { OnErr result (self.new ≡ self.old) }
+        ensures exact { IfOk result (IsPlaced self.now meta blocks.now) }
+
+        // The pieces lie behind the place that the log goes on at, each behind the one before.
+        ensures order { IfOk result (λ placed. InOrder self.now.room self.now.next placed.pieces placed.next) }
+        ensures one_a_stripe { IfOk result (λ placed. OneAStripe placed.pieces) }
+
+        // No byte is left out at the start of a stripe, nor where the log goes on.
+        ensures begin { IfOk result (λ placed. All (BeginsNext self.now.next) placed.pieces) }
+
+        // The blocks lie behind the meta part, each behind the one before, and none crosses a stripe.
+        ensures blocks { IfOk result (λ placed. InOrder self.now.room
+            (behind_meta self.now meta) (map range_of placed.ptrs) placed.next) }
+        ensures ptrs { IfOk result (λ placed. AllZip (IsPtrIn self.now.log placed.pieces) placed.ptrs blocks.now) }
+        ensures worn { IsErrOf result Worn ↔ (last_stripe < (laid_next self.now meta blocks.now).next.stripe) }
     {
-        if self.next.stripe > LAST_STRIPE {
+        if goes_above(self.room, self.next, meta, blocks) {
             return Err(LogFault::Worn);
         }
-        let mut laying = Laying::new(alloc, self.log, self.room, self.next)?;
-        laying.add_meta(meta)?;
-        laying.add_blocks(blocks)?;
-        let (placed, next) = laying.into_placed()?;
-        self.next = next;
-        Ok(placed)
+        Ok(lay(alloc, self.log, self.room, self.next, meta, blocks)?)
     }
 
-    /// Keeps the bytes of the last part, where there is one, as those of the stripe at work.
-    fn keep(&mut self, alloc: Global, last: Option<&Part>) -> Mem<()>
-        requires { IfSome (option_copied last) (GoesOnWith self.old) }
-        ensures ok { OnOk result (self.new ≡ with_last self.old (option_copied last.entry)) }
-        ensures err { OnErr result (self.new ≡ self.old) }
-    {
-        let Some(part) = last else {
-            return Ok(());
-        };
-        if part.stripe == self.at_work {
-            let known = self.bytes.len();
-            self.bytes.extend_from_slice(&part.bytes.slice()[known..])?;
-            return Ok(());
-        }
-        self.bytes = Vec::from_slice(alloc, part.bytes.slice())?;
-        self.at_work = part.stripe;
-        Ok(())
-    }
-
-    /// Gives the bytes of the batch that was placed last: for each stripe of it all bytes so far, and where the
-    /// new ones begin. Zeros stand where a batch was placed and not sealed.
+    /// Gives the bytes of a batch that was placed next: for each stripe of it all bytes so far, and where the new ones
+    /// begin.
     pub fn seal(
-        &mut self,
+        &self,
         alloc: Global,
         placed: &Placed,
         meta: &ByteList,
         blocks: &[ByteList],
     ) -> Mem<Flush>
-        requires { IsLast self.old (length meta.now) (map length blocks.now) placed.now }
-        ensures log { IfOk result (λ flush. flush.log ≡ self.old.log) }
+        requires { IsPlaced self.now (length meta.now) (map length blocks.now) placed.now }
+
+        // The log may go on behind it.
+        ensures sealed { IfOk result (IsSealed self.now placed.now) }
+        ensures log { IfOk result (λ flush. flush.log ≡ self.now.log) }
         ensures parts { IfOk result
             (λ flush. flush.parts
-            ≡ parts_of self.old.at_work self.old.bytes placed.now.pieces (meta.now ++ concat blocks.now)) }
+            ≡ parts_of self.now.next.stripe self.now.bytes placed.now.pieces (meta.now ++ concat blocks.now)) }
 
         // Read at the pieces, one behind the other, the parts give the meta part and the blocks.
         ensures whole { IfOk result
@@ -151,30 +125,46 @@ impl LogBuf {
 
         // Each block stands at its address.
         ensures blocks { IfOk result (λ flush. StandEach flush.parts placed.now.ptrs blocks.now) }
-        ensures new { IfOk result (λ flush. All (HasNew self.old.room) flush.parts) }
+
+        // Each part has new bytes behind those that the log has of its stripe.
+        ensures next { IfOk result
+            (λ flush. All (GoesNext self.now.room self.now.next.stripe self.now.bytes) flush.parts) }
 
         // Each part is of a later stripe than the one before.
-        ensures rise { IfOk result
-            (λ flush. AllPairs (λ one other. one.stripe < other.stripe) flush.parts) }
+        ensures rise { IfOk result (λ flush. StripesRise flush.parts) }
 
-        // The last part is the stripe at work.
-        ensures given { IfOk result
-            (λ flush. self.new ≡ with_last self.old (slice_get flush.parts (length flush.parts - 1))) }
-        ensures err { OnErr result (self.new ≡ self.old) }
+        // The log goes on where the last part ends.
+        ensures end { IfOk result
+            (λ flush. end_with self.now.next (last_of flush.parts) ≡ placed.now.next) }
     {
         let new = joined(alloc, meta, blocks)?;
         let parts = parts(
             alloc,
-            self.at_work,
+            self.next.stripe,
             &self.bytes,
             placed.pieces.slice(),
             &new,
         )?;
-        self.keep(alloc, parts.last())?;
         Ok(Flush {
             log: self.log,
             parts: PartList::of(parts),
         })
+    }
+
+    /// Goes on behind a batch that was placed next and sealed: its addresses are given.
+    pub fn go_on(&mut self, placed: &Placed, flush: Flush)
+        requires { IsSealed self.old placed.now flush }
+        ensures new { self.new ≡ gone_on self.old placed.now.next flush.parts }
+
+        // No address is given twice.
+        ensures gives { Gives self.old placed.now.pieces self.new }
+    {
+        let Some(last) = last_part(flush) else {
+            self.next = placed.next;
+            return;
+        };
+        self.bytes = last.bytes.into_items();
+        self.next = placed.next;
     }
 
     /// Goes on at the start of the stripe behind `last`, and gives the addresses in the stripes above `last` back:
@@ -187,7 +177,6 @@ impl LogBuf {
             stripe: last + 1,
             offset: 0,
         };
-        self.at_work = last + 1;
         self.bytes.clear();
     }
 }

@@ -1,21 +1,20 @@
 ghost use Rattle.std.specs.Prelude.{◌≡◌};
 ghost use Rattle.zb_log.specs.declared.placed.LogFault.TheVariants.{NoMemory as OutOfMemory};
 
+use crate::places::Place;
 use std::alloc::{AllocError, AllocFailed};
 use thiserror::Error;
-use zb_types::{ItemList, NoMemory, Piece, Ptr};
-
-/// Pieces, in order.
-pub type PieceList = ItemList<Piece>;
+use zb_types::{ItemList, NoMemory, PieceList, Ptr};
 
 /// Pointers of blocks, in order.
 pub type PtrList = ItemList<Ptr>;
 
-/// Where a batch lies: its pieces, one a stripe, and the pointer of each block.
+/// Where a batch lies: its pieces, one a stripe, the pointer of each block, and the place behind it.
 #[derive(Drop)]
 pub struct Placed {
     pub pieces: PieceList,
     pub ptrs: PtrList,
+    pub next: Place,
 }
 
 /// Why a log places no batch.

@@ -1,9 +1,10 @@
-ghost use Rattle.std.specs.Prelude.{◌≡◌, ◌≤◌, ◌++◌, IfOk, length};
+ghost use Rattle.std.specs.Prelude.{◌≡◌, ◌++◌, IfOk, length};
 ghost use Rattle.std.specs.List.{concat};
+ghost use Rattle.zb_log.specs.Logs.{last_of};
 ghost use Rattle.zb_log.specs.Sealing.{part_of, given_of, parts_of, HaveBytes};
 
 use std::alloc::Global;
-use zb_stripe::Part;
+use zb_stripe::{Flush, Part};
 use zb_types::{ByteList, Mem, Piece};
 
 /// The bytes of a batch, one behind the other.
@@ -17,24 +18,22 @@ pub(crate) fn joined(alloc: Global, meta: &ByteList, blocks: &[ByteList]) -> Mem
     Ok(new)
 }
 
-/// All bytes of a piece's stripe: those given before, zeros up to the piece, and the new ones.
+/// All bytes of a piece's stripe: those before the piece, and the new ones.
 fn part(alloc: Global, before: &[u8], piece: &Piece, new: &[u8]) -> Mem<Part>
-    requires behind { length before.now ≤ piece.now.offset }
+    requires { length before.now ≡ piece.now.offset }
     ensures { IfOk result (λ part. part ≡ part_of before.now piece.now new.now) }
 {
     let mut bytes = Vec::from_slice(alloc, before)?;
-    let zeros = vec![in alloc; 0u8; piece.offset as usize - before.len()]?;
-    bytes.extend_from_slice(&zeros)?;
     bytes.extend_from_slice(new)?;
     Ok(Part {
         stripe: piece.stripe,
-        begin: before.len() as u32,
+        begin: piece.offset,
         bytes: ByteList::of(bytes),
     })
 }
 
-/// A part for each piece, where `new` are the bytes of all pieces, one behind the other, and `given` those that
-/// were given of the stripe at work.
+/// A part for each piece, where `new` are the bytes of all pieces, one behind the other, and `given` those before of
+/// the stripe at work.
 pub(crate) fn parts(
     alloc: Global,
     at_work: u64,
@@ -54,4 +53,11 @@ pub(crate) fn parts(
         rest = others;
     }
     Ok(parts)
+}
+
+/// The last part of a flush.
+pub(crate) fn last_part(flush: Flush) -> Option<Part>
+    ensures { result ≡ last_of flush.parts }
+{
+    flush.parts.into_items().pop()
 }

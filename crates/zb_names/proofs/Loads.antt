@@ -14,7 +14,7 @@ use Rattle.zb_types.specs.Paths.{is_path}
 use Rattle.zb_types.specs.Names.{Entry, has, walk, with_entry}
 use Rattle.zb_names.specs.declared.entries.Entry.{Entry as Given}
 use Rattle.zb_names.specs.Shown.{seen, listed}
-use Rattle.zb_names.specs.Sound.{IsTree}
+use Rattle.zb_names.specs.Sound.{IsTree, has_number}
 use Rattle.zb_names.specs.Loading.{paths_of, rise}
 use Rattle.zb_names.proofs.Below.{bytes_eq-cmp}
 use Rattle.zb_names.proofs.Inserting.{is_less, all_behind}
@@ -74,6 +74,16 @@ pub test_from_hanging : (entries : List (List ℕ × Entry)) (list : List (List 
 test_from_hanging entries [] h = refl
 test_from_hanging entries (e ∷ list) h = and_from (is_none (walk entries e.0)) (list_all (λ x. is_none (walk entries x.0)) list) (ap is_none h.0) (test_from_hanging entries list h.1)
 
+files_from_test : (next : ℕ) (list : List (List ℕ × Given)) → list_all (λ e. has_number next (seen e.1)) list ≡ true → AllByRecursion (λ e. has_number next e.1 ≡ true) (listed list)
+files_from_test next [] h = tt
+files_from_test next (e ∷ list) h =
+    let parts = and_parts (has_number next (seen e.1)) (list_all (λ x. has_number next (seen x.1)) list) h in
+    (parts.0, files_from_test next list parts.1)
+
+test_from_files : (next : ℕ) (list : List (List ℕ × Given)) → AllByRecursion (λ e. has_number next e.1 ≡ true) (listed list) → list_all (λ e. has_number next (seen e.1)) list ≡ true
+test_from_files next [] h = refl
+test_from_files next (e ∷ list) h = and_from (has_number next (seen e.1)) (list_all (λ x. has_number next (seen x.1)) list) h.0 (test_from_files next list h.1)
+
 -- ---- the first of what is given
 
 all_less-take : (path : List ℕ) (n : ℕ) (list : List (List ℕ × Given)) → AllByRecursion (λ p. slice_cmp nat_cmp path p ≡ Less) (keys_of (listed list)) → AllByRecursion (λ p. slice_cmp nat_cmp path p ≡ Less) (keys_of (listed (take n list)))
@@ -103,9 +113,14 @@ module _ (next : ℕ) (list : List (List ℕ × Given)) where
   abbrev pub hang_test : Bool
   hang_test = list_all (λ e. is_none (walk (listed list) e.0)) list
 
-  pub tree_given : 1 ≤ next → rise (paths_of list) ≡ true → AllByRecursion (λ e. is_path e.0 ≡ true) (listed list) → hang_test ≡ true → IsTree next (listed list)
-  tree_given numbered rises paths hang = record {
-    numbered = numbered;
+  -- each file has a number
+  abbrev pub number_test : Bool
+  number_test = list_all (λ e. has_number next (seen e.1)) list
+
+  pub tree_given : 1 ≤ next → rise (paths_of list) ≡ true → AllByRecursion (λ e. is_path e.0 ≡ true) (listed list) → hang_test ≡ true → number_test ≡ true → IsTree next (listed list)
+  tree_given from rises paths hang number = record {
+    numbered = from;
+    files = files_from_test next list number;
     rising = rw keys-listed (sorted_from_rise (paths_of list) rises);
     paths = paths;
     hanging = hanging_from_test (listed list) list hang;
@@ -113,6 +128,9 @@ module _ (next : ℕ) (list : List (List ℕ × Given)) where
 
   pub given_rises : IsTree next (listed list) → rise (paths_of list) ≡ true
   given_rises tree = rise_from_sorted (paths_of list) (rw keys-listed at tree.rising)
+
+  pub given_numbers : IsTree next (listed list) → number_test ≡ true
+  given_numbers tree = test_from_files next list tree.files
 
   pub given_hangs : IsTree next (listed list) → hang_test ≡ true
   given_hangs tree = test_from_hanging (listed list) list tree.hanging

@@ -16,7 +16,7 @@ use Rattle.std.proofs.Math.Seq.{drop-append_seam, drop-length}
 use Rattle.zb_types.specs.Paths.{is_path}
 use Rattle.zb_types.specs.Names.{Entry, find, has, is_dir, is_below, is_within, walk, moved, max_path, with_entries, renamed}
 use Rattle.zb_names.specs.declared.moving.Move.{Move}
-use Rattle.zb_names.specs.Sound.{IsTree}
+use Rattle.zb_names.specs.Sound.{IsTree, has_number}
 use Rattle.zb_names.specs.Moving.{AreNew, news_of, fresh_of, is_among, lacking, within, relocated}
 use Rattle.zb_names.proofs.Fronts.{hangs_from_walk, walk_from_hanging, split_below, below_split}
 use Rattle.zb_names.proofs.Inserting.{or_else, bytes_eq_self, has-with_entries, find-with_entries}
@@ -407,10 +407,19 @@ module _ (from to : List ℕ) (entries : List (List ℕ × Entry)) (can : CanMov
             rw inside (moved_path e.0 all.0 inside (ltb-false max_path (length (there e.0)) fits), fresh_paths es all.1 parts.1)
       ]
 
+  -- each file keeps its number
+  fresh_numbers : (next : ℕ) (es : List (List ℕ × Entry)) → AllByRecursion (λ e. has_number next e.1 ≡ true) es → AllByRecursion (λ e. has_number next e.1 ≡ true) (relocated (length from) to (within from es))
+  fresh_numbers next [] all = tt
+  fresh_numbers next (e ∷ es) all = elim (cases_Bool (is_within from e.0)) as (λ _. AllByRecursion (λ d. has_number next d.1 ≡ true) (relocated (length from) to (within from (e ∷ es)))) [
+    | inl inside ↦ rw inside (all.0, fresh_numbers next es all.1)
+    | inr outside ↦ rw outside (fresh_numbers next es all.1)
+  ]
+
   -- so they are a tree
-  pub IsTree-renamed : (next : ℕ) → 1 ≤ next → is_path from ≡ true → IsStrictlySortedBy (slice_cmp nat_cmp) (keys_of result) → IsTree next result
-  IsTree-renamed next numbered is_from rising = record {
-    numbered = numbered;
+  pub IsTree-renamed : (next : ℕ) → IsTree next entries → is_path from ≡ true → IsStrictlySortedBy (slice_cmp nat_cmp) (keys_of result) → IsTree next result
+  IsTree-renamed next tree is_from rising = record {
+    numbered = tree.numbered;
+    files = all_with_entries (λ e. has_number next e.1 ≡ true) fresh rest (fresh_numbers next entries tree.files) (all_filter (λ e. has_number next e.1 ≡ true) (λ e. not (is_within from e.0)) entries tree.files);
     rising = rising;
     paths = all_with_entries (λ e. is_path e.0 ≡ true) fresh rest (fresh_paths entries can.paths can.short) (all_filter (λ e. is_path e.0 ≡ true) (λ e. not (is_within from e.0)) entries can.paths);
     hanging = all_with_entries (λ e. walk result e.0 ≡ None) fresh rest (fresh_hanging entries (path_length from is_from) can.hanging) (rest_hanging entries can.hanging);

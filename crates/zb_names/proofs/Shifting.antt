@@ -30,7 +30,7 @@ pub IsSound-renamed : {Z : Type 0} (next : ℕ) (from to : List ℕ) (es new : L
     → IsStrictlySortedBy key_cmp (keys_of new) → AllByRecursion (λ e. HasFront e.0.items e.1) new → IsSound next new
 IsSound-renamed next from to es new sound can is same rising fronts =
     let order : IsStrictlySortedBy (slice_cmp nat_cmp) (keys_of (renamed from to (shown es))) = subst (λ s. IsStrictlySortedBy (slice_cmp nat_cmp) (keys_of s)) same (rising-shown new rising) in
-    record { tree = subst (λ s. IsTree next s) (sym same) (IsTree-renamed from to (shown es) can next sound.tree.numbered is order); fronts = fronts }
+    record { tree = subst (λ s. IsTree next s) (sym same) (IsTree-renamed from to (shown es) can next sound.tree is order); fronts = fronts }
 
 pub IsSound-same : {Z : Type 0} (next : ℕ) (es new : List (Vec ℕ Z × Kept)) → IsSound next es → shown new ≡ shown es → AllByRecursion (λ e. HasFront e.0.items e.1) new → IsSound next new
 IsSound-same next es new sound same fronts = record { tree = subst (λ s. IsTree next s) (sym same) sound.tree; fronts = fronts }

@@ -1,5 +1,5 @@
 -- Changes of the map that leave the names sound.
-use Rattle.std.proofs.Common.{◌≡◌, ℕ, true, false, List, None, sym, subst}
+use Rattle.std.proofs.Common.{◌≡◌, ℕ, ◌≤◌, true, false, List, None, sym, subst}
 use Rattle.std.specs.List.{AllByRecursion, list_any}
 use Rattle.std.specs.List.Sorted.{IsStrictlySortedBy}
 use Rattle.std.specs.declared.vec.Vec.{Vec}
@@ -10,15 +10,15 @@ use Rattle.zb_types.specs.Paths.{is_path}
 use Rattle.zb_types.specs.Names.{Entry, has, walk, with_entry, others, is_below}
 use Rattle.zb_names.specs.declared.entries.Kept.{Kept}
 use Rattle.zb_names.specs.Shown.{shown, is_key}
-use Rattle.zb_names.specs.Sound.{IsSound, IsTree, HasFront, key_cmp}
+use Rattle.zb_names.specs.Sound.{IsSound, IsTree, HasFront, has_number, key_cmp}
 use Rattle.zb_names.proofs.Kept.{remove_entry-shown, rising-shown, rising-keys, All-remove_entry}
 use Rattle.zb_names.proofs.Trees.{IsTree-with_entry, IsTree-others}
 
-pub IsSound-put : {Z : Type 0} (next : ℕ) (es new : List (Vec ℕ Z × Kept)) (path : List ℕ) (entry : Entry) → IsSound next es → is_path path ≡ true → has path (shown es) ≡ false → walk (shown es) path ≡ None
-    → shown new ≡ with_entry path entry (shown es) → IsStrictlySortedBy key_cmp (keys_of new) → AllByRecursion (λ e. HasFront e.0.items e.1) new → IsSound next new
-IsSound-put next es new path entry sound is absent walked same rising fronts =
+pub IsSound-put : {Z : Type 0} (next later : ℕ) (es new : List (Vec ℕ Z × Kept)) (path : List ℕ) (entry : Entry) → next ≤ later → has_number later entry ≡ true → IsSound next es → is_path path ≡ true → has path (shown es) ≡ false → walk (shown es) path ≡ None
+    → shown new ≡ with_entry path entry (shown es) → IsStrictlySortedBy key_cmp (keys_of new) → AllByRecursion (λ e. HasFront e.0.items e.1) new → IsSound later new
+IsSound-put next later es new path entry le number sound is absent walked same rising fronts =
     let order : IsStrictlySortedBy (slice_cmp nat_cmp) (keys_of (with_entry path entry (shown es))) = subst (λ s. IsStrictlySortedBy (slice_cmp nat_cmp) (keys_of s)) same (rising-shown new rising) in
-    record { tree = subst (λ s. IsTree next s) (sym same) (IsTree-with_entry next path entry (shown es) sound.tree is absent walked order); fronts = fronts }
+    record { tree = subst (λ s. IsTree later s) (sym same) (IsTree-with_entry next later path entry (shown es) le number sound.tree is absent walked order); fronts = fronts }
 
 pub IsSound-remove : {Z : Type 0} (next : ℕ) (es : List (Vec ℕ Z × Kept)) (path : List ℕ) → IsSound next es → IsStrictlySortedBy key_cmp (keys_of (remove_entry (is_key path) es))
     → list_any (λ e. is_below path e.0) (shown es) ≡ false → IsSound next (remove_entry (is_key path) es)

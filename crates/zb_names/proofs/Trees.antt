@@ -1,16 +1,16 @@
 -- Trees of names, and changes that leave them trees.
-use Rattle.std.proofs.Common.{◌≡◌, ℕ, ◌<◌, true, false, cond, not, List, [], ◌∷◌, length, Option, Some, None, is_some, refl, sym, ap, subst, ◌∙◌, inl, inr, arith}
+use Rattle.std.proofs.Common.{◌≡◌, ℕ, ◌+◌, ◌<◌, ◌≤◌, leb, ltb, true, false, cond, not, List, [], ◌∷◌, length, Option, Some, None, is_some, refl, sym, ap, subst, ◌∙◌, inl, inr, arith}
 use Rattle.std.specs.List.{AllByRecursion, list_any}
 use Rattle.std.specs.List.Sorted.{IsStrictlySortedBy}
 use Rattle.std.specs.Ordering.{nat_cmp, is_lt}
 use Rattle.std.specs.Cmp.Lexicographic.{slice_cmp}
 use Rattle.std.specs.Str.{bytes_eq}
 use Rattle.std.specs.Map.{keys_of}
-use Rattle.std.proofs.lemmas.Bool.{cases_Bool, or_parts, false≢true}
+use Rattle.std.proofs.lemmas.Bool.{cases_Bool, or_parts, and_parts, and_from, ltb-true, lt-ltb, le-leb, false≢true}
 use Rattle.std.proofs.lemmas.Slice.Eq.{bytes_eq-Decides}
 use Rattle.zb_types.specs.Paths.{is_path}
-use Rattle.zb_types.specs.Names.{Entry, numbered, find, has, is_dir, is_below, walk, with_entry, others}
-use Rattle.zb_names.specs.Sound.{IsTree}
+use Rattle.zb_types.specs.Names.{Entry, directory, numbered, find, has, is_dir, is_below, walk, with_entry, others}
+use Rattle.zb_names.specs.Sound.{IsTree, has_number}
 use Rattle.zb_names.proofs.Kept.{has-find}
 use Rattle.zb_names.proofs.Fronts.{hangs_from_walk, walk_from_hanging}
 
@@ -67,10 +67,27 @@ all_hang-with_entry : (new : List ℕ) (entry : Entry) (all es : List (List ℕ 
 all_hang-with_entry new entry all [] absent hanging = tt
 all_hang-with_entry new entry all (e ∷ es) absent hanging = (hangs-with_entry new entry all e.0 absent hanging.0, all_hang-with_entry new entry all es absent hanging.1)
 
-pub IsTree-with_entry : (next : ℕ) (new : List ℕ) (entry : Entry) (es : List (List ℕ × Entry)) → IsTree next es → is_path new ≡ true → has new es ≡ false → walk es new ≡ None
-    → IsStrictlySortedBy (slice_cmp nat_cmp) (keys_of (with_entry new entry es)) → IsTree next (with_entry new entry es)
-IsTree-with_entry next new entry es tree path absent walked rising = record {
-  numbered = tree.numbered;
+-- numbers below the next are below a later one
+number_on : (next later : ℕ) (entry : Entry) → next ≤ later → has_number next entry ≡ true → has_number later entry ≡ true
+number_on next later directory le h = refl
+number_on next later (numbered n) le h =
+    let parts = and_parts (leb 1 n) (ltb n next) h in
+    let below = ltb-true n next parts.1 in
+    and_from (leb 1 n) (ltb n later) parts.0 (lt-ltb n later (omega arith))
+
+numbers_on : (next later : ℕ) (es : List (List ℕ × Entry)) → next ≤ later → AllByRecursion (λ e. has_number next e.1 ≡ true) es → AllByRecursion (λ e. has_number later e.1 ≡ true) es
+numbers_on next later [] le all = tt
+numbers_on next later (e ∷ es) le all = (number_on next later e.1 le all.0, numbers_on next later es le all.1)
+
+-- the number of a new file
+pub number_of_new : (n : ℕ) → 1 ≤ n → has_number (n + 1) (numbered n) ≡ true
+number_of_new n some = and_from (leb 1 n) (ltb n (n + 1)) (le-leb 1 n some) (lt-ltb n (n + 1) (omega arith))
+
+pub IsTree-with_entry : (next later : ℕ) (new : List ℕ) (entry : Entry) (es : List (List ℕ × Entry)) → next ≤ later → has_number later entry ≡ true → IsTree next es → is_path new ≡ true → has new es ≡ false → walk es new ≡ None
+    → IsStrictlySortedBy (slice_cmp nat_cmp) (keys_of (with_entry new entry es)) → IsTree later (with_entry new entry es)
+IsTree-with_entry next later new entry es le number tree path absent walked rising = record {
+  numbered = (let from = tree.numbered in omega arith);
+  files = all-with_entry (λ e. has_number later e.1 ≡ true) new entry es number (numbers_on next later es le tree.files);
   rising = rising;
   paths = all-with_entry (λ e. is_path e.0 ≡ true) new entry es path tree.paths;
   hanging = all-with_entry (λ e. walk (with_entry new entry es) e.0 ≡ None) new entry es (hangs-with_entry new entry es new absent walked) (all_hang-with_entry new entry es es absent tree.hanging);
@@ -109,6 +126,7 @@ pub IsTree-others : (next : ℕ) (gone : List ℕ) (es : List (List ℕ × Entry
     → IsStrictlySortedBy (slice_cmp nat_cmp) (keys_of (others gone es)) → IsTree next (others gone es)
 IsTree-others next gone es tree outside rising = record {
   numbered = tree.numbered;
+  files = all-others (λ e. has_number next e.1 ≡ true) gone es tree.files;
   rising = rising;
   paths = all-others (λ e. is_path e.0 ≡ true) gone es tree.paths;
   hanging = all-others (λ e. walk (others gone es) e.0 ≡ None) gone es (all_hang-others gone es es outside tree.hanging);

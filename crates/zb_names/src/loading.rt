@@ -7,7 +7,7 @@ ghost use Rattle.std.specs.Cmp.Lexicographic.{slice_cmp};
 ghost use Rattle.zb_types.specs.Paths.{is_path};
 ghost use Rattle.zb_types.specs.Names.{walk};
 ghost use Rattle.zb_names.specs.Shown.{seen, shown, listed};
-ghost use Rattle.zb_names.specs.Sound.{HasFront, key_cmp};
+ghost use Rattle.zb_names.specs.Sound.{HasFront, has_number, key_cmp};
 ghost use Rattle.zb_names.specs.Loading.{rise, paths_of};
 
 use crate::entries::{Entry, EntryMap, put};
@@ -65,4 +65,20 @@ pub(crate) fn all_hang(map: &EntryMap, list: &[(Path, Entry)]) -> bool
 {
     list.iter()
         .all(|(path, _)| walk(map, path.slice()).is_none())
+}
+
+fn has_number(next: u32, entry: Entry) -> bool
+    ensures { result ≡ has_number next (seen entry) }
+{
+    match entry {
+        Entry::Dir => true,
+        Entry::File(fid) => 1 <= fid.0 && fid.0 < next,
+    }
+}
+
+// Whether each file has a number from 1 that is below the next.
+pub(crate) fn are_numbered(next: u32, list: &[(Path, Entry)]) -> bool
+    ensures { result ≡ list_all (λ e. has_number next (seen e.1)) list.now }
+{
+    list.iter().all(|(_, entry)| has_number(next, *entry))
 }

@@ -7,13 +7,13 @@ ghost use Rattle.std.specs.Option.{option_copied};
 ghost use Rattle.zb_types.specs.declared.calls.Call.TheVariants.{Create, Mkdir, Remove, Rename, Stat, List as ListOf};
 ghost use Rattle.zb_types.specs.declared.calls.Reply.TheVariants.{Made};
 ghost use Rattle.zb_names.specs.Shown.{kept_as, seen, listed, change_of};
-ghost use Rattle.zb_names.specs.Sound.{HasFront, IsTree};
+ghost use Rattle.zb_names.specs.Sound.{HasFront, IsTree, has_number};
 ghost use Rattle.zb_names.specs.Answers.{IsAnswer};
 
 use crate::entries::{Entry, EntryMap, Kept, put};
 use crate::faults::NameFault;
 use crate::listing::names_behind;
-use crate::loading::{all_hang, gather, rise};
+use crate::loading::{all_hang, are_numbered, gather, rise};
 use crate::looking::{entry_at, has_below, refusal_of_new};
 use crate::moving::{gather_moves, movable, shift};
 use std::alloc::Global;
@@ -61,12 +61,16 @@ impl Names {
     }
 
     /// The names with these entries and this number for the next file. None exactly where the number is 0, where the
-    /// paths don't rise by their bytes, or where a proper front of a path isn't that of a directory.
+    /// paths don't rise by their bytes, where a proper front of a path isn't that of a directory, or where the number
+    /// of a file is 0 or not below the next.
     pub fn load(alloc: Global, next: u32, list: &[(Path, Entry)]) -> Mem<Option<Names>>
         ensures same { IfOk result (λ found. IfSome found (λ names. names ≡ record { next = next; entries = listed list.now })) }
         ensures exact { IfOk result (λ found. IsSome found ↔ IsTree next (listed list.now)) }
     {
         if next == 0 || !rise(list) {
+            return Ok(None);
+        }
+        if !are_numbered(next, list) {
             return Ok(None);
         }
         let kept = gather(alloc, list)?;
@@ -92,13 +96,17 @@ impl Names {
         self.next
     }
 
-    fn add(&mut self, alloc: Global, path: &Path, entry: Entry) -> Mem<()>
+    // Adds an entry, behind which the next file gets this number.
+    fn add(&mut self, alloc: Global, path: &Path, entry: Entry, next: u32) -> Mem<()>
         requires walked { walk self.old.entries path.now ≡ None }
         requires free { has path.now self.old.entries ≡ false }
-        ensures ok { OnOk result (self.new ≡ record { next = self.old.next; entries = with_entry path.now (seen entry) self.old.entries }) }
+        requires rises { self.old.next ≤ next }
+        requires number { has_number next (seen entry) ≡ true }
+        ensures ok { OnOk result (self.new ≡ record { next = next; entries = with_entry path.now (seen entry) self.old.entries }) }
         ensures err { OnErr result (self.new ≡ self.old) }
     {
         put(alloc, &mut self.kept, path.slice(), entry)?;
+        self.next = next;
         Ok(())
     }
 
@@ -115,10 +123,9 @@ impl Names {
         if self.next == LAST_NUMBER {
             return Err(NameFault::Refused(Refusal::Full));
         }
-        let fid = Fid(self.next);
-        self.add(alloc, path, Entry::File(fid))?;
-        self.next += 1;
-        Ok(fid)
+        let number = self.next;
+        self.add(alloc, path, Entry::File(Fid(number)), number + 1)?;
+        Ok(Fid(number))
     }
 
     /// Makes a directory.
@@ -130,7 +137,7 @@ impl Names {
         if let Some(why) = refusal_of_new(&self.kept, path.slice()) {
             return Err(NameFault::Refused(why));
         }
-        self.add(alloc, path, Entry::Dir)?;
+        self.add(alloc, path, Entry::Dir, self.next)?;
         Ok(())
     }
 
@@ -241,47 +248,5 @@ impl Names {
             None => Ok(self.list_root(alloc)?),
             Some(path) => self.list_at(alloc, path),
         }
-    }
-}
-
-#[cfg(test)]
-mod tests {
-    use super::*;
-    use std::test::Fail;
-
-    fn path(alloc: Global, text: &[u8]) -> Result<Path, Fail> {
-        Ok(Path::parse(alloc, text)?.ok_or("no path")?)
-    }
-
-    fn text_of(alloc: Global, names: &Names) -> Result<Vec<u8>, Fail> {
-        let mut text = Vec::new(alloc);
-        for (path, _) in &names.entries(alloc)? {
-            text.extend_from_slice(path.slice())?;
-            text.push(b' ')?;
-        }
-        Ok(text)
-    }
-
-    #[test]
-    fn a_directory_is_renamed_with_what_lies_below(rt: HostRuntime) -> Result<(), Fail> {
-        let alloc = rt.alloc();
-        let mut names = Names::new(alloc)?;
-        names.mkdir(alloc, &path(alloc, b"/a")?)?;
-        names.create(alloc, &path(alloc, b"/a!")?)?;
-        names.create(alloc, &path(alloc, b"/a/x")?)?;
-        names.rename(alloc, &path(alloc, b"/a")?, &path(alloc, b"/b")?)?;
-        assert_eq!(rt;
-            text_of(alloc, &names)?.as_slice(),
-            b"/a! /b /b/x ".as_slice()
-        );
-        assert_eq!(rt; names.list(alloc, None)?.len(), 2);
-        assert_eq!(rt; names.remove(&path(alloc, b"/b")?), Err(Refusal::NotEmpty));
-        assert_eq!(rt; names.remove(&path(alloc, b"/b/x")?), Ok(Some(Fid(2))));
-        let same = Names::load(alloc, names.next(), &names.entries(alloc)?)?.ok_or("no tree")?;
-        assert_eq!(rt;
-            text_of(alloc, &same.copy(alloc)?)?.as_slice(),
-            b"/a! /b ".as_slice()
-        );
-        Ok(())
     }
 }

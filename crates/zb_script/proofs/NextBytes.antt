@@ -51,9 +51,13 @@ pub some_long : (bytes : List ℕ) (n : ℕ) → n < length bytes → bytes ≢ 
 some_long [] n lt none = omega (arith, lt)
 some_long (b ∷ bytes) n lt none = cc
 
+ends_not : (n : ℕ) → Some n ≡ None → ⊥
+ends_not n is = cc
+
 -- a line whose end isn't there, and that is too long
 pub endless : (place : Place) (bytes : List ℕ) → position is_end bytes ≡ None → 17000 < length bytes → IsBadHere place bytes
 endless place bytes at long = record {
+  closed = λ o. let short = o.short in omega arith;
   some = some_long bytes 17000 long;
   none = λ text more after may here.
       let e = ended place.geo text may in
@@ -65,6 +69,7 @@ pub too_far : (place : Place) (bytes : List ℕ) (n : ℕ) → position is_end b
 too_far place bytes n at far =
     let mark = marked bytes n at in
     record {
+      closed = λ o. let none = o.no_end in absurd (ends_not n (sym at ∙ none));
       some = some_long bytes n mark.within;
       none = λ text more after may here.
           let e = ended place.geo text may in
@@ -77,6 +82,7 @@ pub no_line : (place : Place) (bytes : List ℕ) (n : ℕ) → position is_end b
 no_line place bytes n at unread =
     let mark = marked bytes n at in
     record {
+      closed = λ o. let none = o.no_end in absurd (ends_not n (sym at ∙ none));
       some = some_long bytes n mark.within;
       none = λ text more after may here.
           let e = ended place.geo text may in

@@ -17,6 +17,7 @@ pub record Place : Type 0 where
 abbrev pub script_start : Place
 script_start = record { geo = None; lines = 0; used = 0 }
 
+-- how many bytes a line has at most, without its end
 abbrev pub max_line : ℕ
 max_line = 17000
 
@@ -32,16 +33,18 @@ pub record IsFront (place : Place) (bytes text : List ℕ) (len : ℕ) : Type 0 
   pub within : len ≤ length bytes
   pub limit : place.used + len ≤ max_script
 
--- whatever follows, nothing that may stand here does, or it ends past the limit
-pub record IsBadHere (place : Place) (bytes : List ℕ) : Type 0 where
-  pub some : bytes ≢ []
-  pub none : (text more after : List ℕ) → MayStand place.geo text → bytes ++ more ≡ text ++ after → max_script < place.used + length text
-
 -- the line that these bytes begin with, with its end, is still open
 pub record IsOpen (bytes : List ℕ) : Type 0 where
   pub no_end : position (λ b. b == 10) bytes ≡ None
   pub short : length bytes ≤ max_line
 
+-- the line isn't open, and whatever follows, nothing that may stand here does, or it ends past the limit
+pub record IsBadHere (place : Place) (bytes : List ℕ) : Type 0 where
+  pub closed : ¬ IsOpen bytes
+  pub some : bytes ≢ []
+  pub none : (text more after : List ℕ) → MayStand place.geo text → bytes ++ more ≡ text ++ after → max_script < place.used + length text
+
+-- the line is one of the system whose header was read
 abbrev pub IsLineHere : Option Geometry → Line → Type 0
 IsLineHere None line = ⊥
 IsLineHere (Some geo) line = IsLine geo line

@@ -2,4 +2,8 @@
 #![tactic(auto)]
 
 #[cfg(test)]
+mod history;
+#[cfg(test)]
+mod names;
+#[cfg(test)]
 mod types;

@@ -2,7 +2,8 @@ use Rattle.std.proofs.Common.{◌≡◌, List, length, Some, sym, subst, arith}
 use Rattle.std.specs.Prelude.{All}
 use Rattle.std.proofs.lemmas.Grind.{common_steps}
 use Rattle.zb_stripe.specs.declared.flush.Part.{Part}
-use Rattle.zb_blocks.specs.Flushing.{last_of, CanEnter}
+use Rattle.zb_log.specs.Logs.{last_of}
+use Rattle.zb_blocks.specs.Flushing.{CanEnter}
 use Rattle.zb_blocks.proofs.Beginnings.{can_enter, small_room}
 use Rattle.zb_blocks.proofs.flushing.commit.Goals as goal
 

@@ -1,0 +1,40 @@
+use std::alloc::Global;
+use std::test::Fail;
+use zb_names::Names;
+use zb_types::{Fid, Path, Refusal};
+
+fn path(alloc: Global, text: &[u8]) -> Result<Path, Fail> {
+    Ok(Path::parse(alloc, text)?.ok_or("no path")?)
+}
+
+fn text_of(alloc: Global, names: &Names) -> Result<Vec<u8>, Fail> {
+    let mut text = Vec::new(alloc);
+    for (path, _) in &names.entries(alloc)? {
+        text.extend_from_slice(path.slice())?;
+        text.push(b' ')?;
+    }
+    Ok(text)
+}
+
+#[test]
+fn a_directory_is_renamed_with_what_lies_below(rt: HostRuntime) -> Result<(), Fail> {
+    let alloc = rt.alloc();
+    let mut names = Names::new(alloc)?;
+    names.mkdir(alloc, &path(alloc, b"/a")?)?;
+    names.create(alloc, &path(alloc, b"/a!")?)?;
+    names.create(alloc, &path(alloc, b"/a/x")?)?;
+    names.rename(alloc, &path(alloc, b"/a")?, &path(alloc, b"/b")?)?;
+    assert_eq!(rt;
+        text_of(alloc, &names)?.as_slice(),
+        b"/a! /b /b/x ".as_slice()
+    );
+    assert_eq!(rt; names.list(alloc, None)?.len(), 2);
+    assert_eq!(rt; names.remove(&path(alloc, b"/b")?), Err(Refusal::NotEmpty));
+    assert_eq!(rt; names.remove(&path(alloc, b"/b/x")?), Ok(Some(Fid(2))));
+    let same = Names::load(alloc, names.next(), &names.entries(alloc)?)?.ok_or("no tree")?;
+    assert_eq!(rt;
+        text_of(alloc, &same.copy(alloc)?)?.as_slice(),
+        b"/a! /b ".as_slice()
+    );
+    Ok(())
+}

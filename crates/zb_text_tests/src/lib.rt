@@ -1,7 +1,7 @@
-//! Tests of the texts of scripts and reports.
+//! Tests of the language of scripts, of reports and of their texts.
 #![tactic(auto)]
 
 #[cfg(test)]
 mod report;
 #[cfg(test)]
-mod script;
+mod scripts;

@@ -1,6 +1,6 @@
 -- What is found in a list under numbers after a change of it, and how such a list stands to a map with numbers as keys.
 use Rattle.std.proofs.Common.{◌≡◌, ℕ, zero, suc, ◌<◌, ◌≤◌, ◌+◌, true, cond, List, [], ◌∷◌, length, Option, Some, None, refl, sym, ap, ◌∙◌, inl, inr, arith}
-use Rattle.std.specs.Prelude.{if◌then◌else◌, ◌==◌, is_some, option_map}
+use Rattle.std.specs.Prelude.{if◌then◌else◌, ◌==◌, is_some}
 use Rattle.std.specs.Ordering.{nat_cmp}
 use Rattle.std.specs.declared.cmp.Ordering.TheVariants.{Less}
 use Rattle.std.specs.List.{AllByRecursion, slice_get}
@@ -63,7 +63,12 @@ look-without_same k es = grind (arith, nat_tests, look-without k k es)
 pub look-without_other : {A : Type 0} (q k : ℕ) (es : List (ℕ × A)) → (k ≡ q → ⊥) → look q (without k es) ≡ look q es
 look-without_other q k es other = grind (arith, nat_tests, look-without q k es)
 
-pub look-changed : {A B : Type 0} (f : A → B) (q : ℕ) (es : List (ℕ × A)) → look q (changed f es) ≡ option_map f (look q es)
+-- f of what there is
+abbrev pub over : {A B : Type 0} → (A → B) → Option A → Option B
+over f None = None
+over f (Some a) = Some (f a)
+
+pub look-changed : {A B : Type 0} (f : A → B) (q : ℕ) (es : List (ℕ × A)) → look q (changed f es) ≡ over f (look q es)
 look-changed f q [] = refl
 look-changed f q (e ∷ es) = grind (arith, look-changed f q es)
 

@@ -48,15 +48,17 @@ impl From<AllocError> for Halted {
     }
 }
 
-// A world breaks off for want of memory alone.
+// A world breaks off for want of memory alone: no run has as many calls as a number can count.
 impl From<Halt> for Halted {
     ghost use Rattle.std.specs.Prelude.{◌≡◌};
     ghost use Rattle.zebra.specs.declared.ending.Halted.TheVariants.{Memory};
 
     ghost from_gives = { λ _ e. e ≡ Memory };
 
-    fn from(_: Halt) -> Halted {
-        Halted::Memory
+    fn from(halt: Halt) -> Halted {
+        match halt {
+            Halt::NoMemory | Halt::Worn { .. } => Halted::Memory,
+        }
     }
 }
 

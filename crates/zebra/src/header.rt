@@ -22,8 +22,9 @@ pub enum Heading {
     Later { number: u64 },
 }
 
-// Takes bytes until a line is whole, or the script has no more.
+// Takes bytes until a line is whole, or the script has no more; none where one is whole already.
 fn fill<O: Outside + Drop>(alloc: Global, source: &mut Source, out: &mut O) -> Result<(), Halted>
+    ensures none { wants_more source.old ≡ false → (source.new ≡ source.old) × (out.new ≡ out.old) }
     ensures whole { OnOk result (wants_more source.new ≡ false) }
     ensures told { IsTrue O.tells → StillReads result source.old source.new (tape (O.counts out.old).streams (O.meaning out.old)) (tape (O.counts out.new).streams (O.meaning out.new)) }
     ensures prints { IsTrue O.tells → (O.meaning out.new).now.printed ≡ (O.meaning out.old).now.printed }

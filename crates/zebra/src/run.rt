@@ -17,12 +17,13 @@ use zb_world::{Step, World};
 
 const CLIENT: u8 = 1;
 
-// Takes bytes until a line is whole, or the script has no more.
+// Takes bytes until a line is whole, or the script has no more; none where one is whole already.
 fn fill<O: Outside + Drop>(
     alloc: Global,
     source: &mut Source,
     world: &mut World<O>,
 ) -> Result<(), Halted>
+    ensures none { wants_more source.old ≡ false → (source.new ≡ source.old) × (world.new ≡ world.old) }
     ensures whole { OnOk result (wants_more source.new ≡ false) }
     ensures seen { world.new.seen ≡ world.old.seen }
     ensures told { IsTrue O.tells → StillReads result source.old source.new (tape (O.counts world.old.out).streams (O.meaning world.old.out)) (tape (O.counts world.new.out).streams (O.meaning world.new.out)) }

@@ -4,8 +4,4 @@ pub mod Fits
 pub mod Text
 pub mod Script
 pub mod Runs
-pub mod Reasons
-pub mod Need
-pub mod Ahead
-pub mod Headline
 pub mod Rows

@@ -24,6 +24,7 @@ use Rattle.zb_types.specs.History.{tree_after}
 
 -- Subjects: lines of the report and of the script that belong together are counted by their subject.
 
+-- whose calls, jobs or events
 pub data Subject : Type 0 where
   calls : ℕ → Subject
   cleans : Subject
@@ -34,6 +35,7 @@ pub data Subject : Type 0 where
   loses : ℕ → Subject
   checkpoints : Subject
 
+-- they are one node
 abbrev pub same_node : Node → Node → Bool
 same_node (Server a) (Server b) = a == b
 same_node (Client a) (Client b) = a == b
@@ -42,6 +44,7 @@ same_node Cleaner Cleaner = true
 same_node Mender Mender = true
 same_node a b = false
 
+-- they are one subject
 abbrev pub same_subject : Subject → Subject → Bool
 same_subject (calls a) (calls b) = a == b
 same_subject cleans cleans = true
@@ -53,6 +56,7 @@ same_subject (loses a) (loses b) = a == b
 same_subject checkpoints checkpoints = true
 same_subject a b = false
 
+-- an event's subject
 abbrev pub subject_of_event : Event → Subject
 subject_of_event (CrashOf node) = crashes node
 subject_of_event (ArmOf node count) = arms node
@@ -60,6 +64,7 @@ subject_of_event (UpOf node) = ups node
 subject_of_event (LoseOf server) = loses server.0
 subject_of_event CheckpointOf = checkpoints
 
+-- the subject of an event as a report tells it
 abbrev pub subject_of_told : Told → Subject
 subject_of_told (Crash node) = crashes node
 subject_of_told (Arm node) = arms node
@@ -67,12 +72,14 @@ subject_of_told (Up node) = ups node
 subject_of_told (Lose server) = loses server.0
 subject_of_told Checkpoint = checkpoints
 
+-- the subject of a line of the report
 abbrev pub subject_of : Outcome → Subject
 subject_of (OfCall client number said) = calls client
 subject_of (OfClean pass) = cleans
 subject_of (OfRebuild server end) = rebuilds server.0
 subject_of (OfEvent event answer) = subject_of_told event
 
+-- a line of a script has this subject
 abbrev pub is_about : Subject → Line → Bool
 is_about subject (CallLine plus client call) = same_subject subject (calls client)
 is_about subject (JobLine plus Clean) = same_subject subject cleans
@@ -85,17 +92,25 @@ is_about subject (EventLine event) = same_subject subject (subject_of_event even
 abbrev pub asked_of : Subject → List Line → ℕ
 asked_of subject script = length (filter (is_about subject) script)
 
+-- how many lines of a report have this subject
 abbrev pub told_of : Subject → List Outcome → ℕ
 told_of subject lines = length (filter (λ line. same_subject subject (subject_of line)) lines)
 
--- the n-th line of the script with this subject, and its place
+-- this one where it is the first that is asked for, else one of the later ones
+abbrev pub or_later : ℕ → ℕ × Line → (ℕ → Option (ℕ × Line)) → Option (ℕ × Line)
+or_later n here later = if n == 1 then Some here else later (n - 1)
+
+-- the n-th of these lines with this subject, and its place, where the first of them stands at this place
 abbrev pub asked_from : ℕ → Subject → ℕ → List Line → Option (ℕ × Line)
 asked_from place subject n [] = None
-asked_from place subject n (line ∷ lines) = if is_about subject line then (if n == 1 then Some (place, line) else asked_from (suc place) subject (n - 1) lines) else asked_from (suc place) subject n lines
+asked_from place subject n (line ∷ lines) =
+    if is_about subject line then or_later n (place, line) (λ m. asked_from (suc place) subject m lines) else asked_from (suc place) subject n lines
 
+-- the n-th line of the script with this subject, and its place, from 0
 abbrev pub asked : List Line → Subject → ℕ → Option (ℕ × Line)
 asked script subject n = asked_from 0 subject n script
 
+-- the call of a line that was found
 abbrev pub call_in : Option (ℕ × Line) → Option Call
 call_in None = None
 call_in (Some (place, CallLine plus client call)) = Some call
@@ -110,6 +125,7 @@ call_of script client n = call_in (asked script (calls client) n)
 
 -- Lines of a call.
 
+-- nothing comes of a call behind such a line
 abbrev pub is_final : Said → Bool
 is_final (Replied reply) = true
 is_final Buffered = false
@@ -118,12 +134,14 @@ is_final (Failed cause) = true
 is_final Dropped = true
 is_final (Unfinished cause) = true
 
+-- it is a line of this call
 abbrev pub names : ℕ → ℕ → Outcome → Bool
 names client n (OfCall c m said) = client == c && n == m
 names client n (OfClean pass) = false
 names client n (OfRebuild server end) = false
 names client n (OfEvent event answer) = false
 
+-- it is the final line of this call
 abbrev pub ends : ℕ → ℕ → Outcome → Bool
 ends client n (OfCall c m said) = client == c && n == m && is_final said
 ends client n (OfClean pass) = false
@@ -134,9 +152,11 @@ ends client n (OfEvent event answer) = false
 abbrev pub is_of_client : ℕ → Outcome → Bool
 is_of_client client line = same_subject (calls client) (subject_of line)
 
+-- a line of this call stands
 abbrev pub has_line : List Outcome → ℕ → ℕ → Bool
 has_line lines client n = list_any (names client n) lines
 
+-- the final line of this call stands
 abbrev pub has_final : List Outcome → ℕ → ℕ → Bool
 has_final lines client n = list_any (ends client n) lines
 
@@ -152,27 +172,45 @@ kept_now lines client = length (filter (λ n. not (has_final lines client n)) (f
 
 -- Begun: each earlier line of a call, a job or an event that has no plus has its line.
 
+-- the first line of a client's n-th call stands, or the n-th line of another subject
 abbrev pub has_told : List Outcome → Subject → ℕ → Bool
 has_told lines (calls client) n = has_line lines client n
 has_told lines subject n = nat_le n (told_of subject lines)
 
+-- what a line of a script asks for; a step asks for no line
+abbrev pub subject_asked : Line → Option Subject
+subject_asked (CallLine plus client call) = Some (calls client)
+subject_asked (JobLine plus Clean) = Some cleans
+subject_asked (JobLine plus (Rebuild server)) = Some (rebuilds server.0)
+subject_asked (Steps actor count) = None
+subject_asked (StepTo actor kind) = None
+subject_asked (EventLine event) = Some (subject_of_event event)
+
+-- whether it is only put into a queue
+abbrev pub has_plus : Line → Bool
+has_plus (CallLine plus client call) = plus
+has_plus (JobLine plus job) = plus
+has_plus (Steps actor count) = false
+has_plus (StepTo actor kind) = false
+has_plus (EventLine event) = false
+
+-- what it asks for before a later line is begun
 abbrev pub subject_in : Line → Option Subject
-subject_in (CallLine true client call) = None
-subject_in (CallLine false client call) = Some (calls client)
-subject_in (JobLine true job) = None
-subject_in (JobLine false Clean) = Some cleans
-subject_in (JobLine false (Rebuild server)) = Some (rebuilds server.0)
-subject_in (Steps actor count) = None
-subject_in (StepTo actor kind) = None
-subject_in (EventLine event) = Some (subject_of_event event)
+subject_in line = if has_plus line then None else subject_asked line
 
-abbrev pub is_answered : List Outcome → List Line → Option Subject → Bool
-is_answered lines earlier None = true
-is_answered lines earlier (Some subject) = has_told lines subject (suc (asked_of subject earlier))
+-- what a line asks for is there, behind these earlier lines of the script
+abbrev pub is_met : (Subject → ℕ → Bool) → List Line → Option Subject → Bool
+is_met is_there earlier None = true
+is_met is_there earlier (Some subject) = is_there subject (suc (asked_of subject earlier))
 
+-- what each of these lines asks for is there
+abbrev pub all_met : (Line → Option Subject) → (Subject → ℕ → Bool) → List Line → List Line → Bool
+all_met asks is_there earlier [] = true
+all_met asks is_there earlier (line ∷ script) = is_met is_there earlier (asks line) && all_met asks is_there (earlier ++ line ∷ []) script
+
+-- each of these lines that has no plus has its line
 abbrev pub all_answered : List Outcome → List Line → List Line → Bool
-all_answered lines earlier [] = true
-all_answered lines earlier (line ∷ script) = is_answered lines earlier (subject_in line) && all_answered lines (earlier ++ line ∷ []) script
+all_answered lines = all_met subject_in (has_told lines)
 
 -- whether the script line at this place was begun when these lines stood
 abbrev pub is_begun : List Line → List Outcome → ℕ → Bool
@@ -180,10 +218,12 @@ is_begun script lines place = all_answered lines [] (take place script)
 
 -- The history that a report tells.
 
+-- an update that is answered with this reply
 abbrev pub did_if : ℕ → ℕ → Reply → Option Call → List Did
 did_if client n reply None = []
 did_if client n reply (Some call) = if is_update call then record { client = client; number = n; call = call; reply = reply } ∷ [] else []
 
+-- the update that a line answers with a reply, if it does
 abbrev pub did_of : List Line → Outcome → List Did
 did_of script (OfCall client n (Replied reply)) = did_if client n reply (call_of script client n)
 did_of script line = []
@@ -192,6 +232,7 @@ did_of script line = []
 abbrev pub dids : List Line → List Outcome → List Did
 dids script lines = flat_map (did_of script) lines
 
+-- the tree after the updates that these lines answer
 abbrev pub tree_at : List Line → List Outcome → Tree
 tree_at script lines = tree_after (dids script lines)
 
@@ -202,20 +243,26 @@ abbrev pub stands_from : Bool → (Outcome → Bool) → (Outcome → Bool) → 
 stands_from so causes marks [] = so
 stands_from so causes marks (line ∷ lines) = stands_from (not (marks line) && (so || causes line)) causes marks lines
 
+-- the last cause has come since the last mark
 abbrev pub stands : (Outcome → Bool) → (Outcome → Bool) → List Outcome → Bool
 stands causes marks lines = stands_from false causes marks lines
 
+-- it is an event of this subject that was done
 abbrev pub is_event : Subject → Outcome → Bool
 is_event subject (OfEvent event EventDone) = same_subject subject (subject_of_told event)
 is_event subject line = false
 
--- which of its lines the first `crash fm done` is that no `up fm done` has followed, or 0
+-- the file manager crashed in its n-th line of a crash, where it was up before
+abbrev pub crash_at : ℕ → ℕ → Outcome → ℕ
+crash_at n at line = if is_event (crashes Manager) line && at == 0 then n else at
+
+-- which of its lines the first `crash fm done` is that no `up fm done` has followed, or 0: n came before these, and this one stands
 abbrev pub crash_from : ℕ → ℕ → List Outcome → ℕ
 crash_from n at [] = at
 crash_from n at (line ∷ lines) =
     if is_event (ups Manager) line then crash_from n 0 lines else (
-    if same_subject (crashes Manager) (subject_of line) then crash_from (suc n) (if is_event (crashes Manager) line && at == 0 then suc n else at) lines else
-    crash_from n at lines)
+    if same_subject (crashes Manager) (subject_of line) then crash_from (suc n) (crash_at (suc n) at line) lines else crash_from n at lines)
 
+-- the line at this place of the script stands before that of the crash by which the file manager is down, if it is
 abbrev pub is_before_crash : List Line → List Outcome → ℕ → Bool
 is_before_crash script lines place = crash_from 0 0 lines == 0 || nat_lt (asked_of (crashes Manager) (take place script)) (crash_from 0 0 lines)

@@ -2,13 +2,11 @@
 use Rattle.std.specs.Prelude.{◌≡◌, ◌⊎◌, ℕ, suc, Bool, true, false, not, List, [], ◌∷◌, ◌++◌, length, take, codes, Option, Some, None, ◌==◌, ◌&&◌}
 use Rattle.std.specs.List.{list_any, AllByRecursion}
 use Rattle.zb_types.specs.declared.geometry.Geometry.{Geometry}
-use Rattle.zb_types.specs.declared.lines.Job.TheVariants.{Clean, Rebuild}
 use Rattle.zb_types.specs.declared.lines.Line.{Line}
-use Rattle.zb_types.specs.declared.lines.Line.TheVariants.{Call as CallLine, Job as JobLine, Steps, StepTo, Event as EventLine}
 use Rattle.zb_types.specs.declared.lines.Said.TheVariants.{Unfinished}
 use Rattle.zb_types.specs.declared.lines.Outcome.{Outcome}
 use Rattle.zb_types.specs.declared.lines.Outcome.TheVariants.{Call as OfCall}
-use Rattle.zb_claims.specs.Points.{Subject, calls, cleans, rebuilds, subject_of_event, asked_of, has_final, has_told, is_begun, tree_at}
+use Rattle.zb_claims.specs.Points.{Subject, calls, subject_asked, has_final, has_told, is_begun, all_met, tree_at}
 use Rattle.zb_claims.specs.Fits.{FitLines}
 use Rattle.zb_claims.specs.Text.{newline, num, report_text, tree_text, IsOutcome}
 use Rattle.zb_claims.specs.Script.{Grammar, Row, lines_in, Begins, StopsAt, HasNoHeader}
@@ -17,43 +15,40 @@ use Rattle.zb_claims.specs.Script.{Grammar, Row, lines_in, Begins, StopsAt, HasN
 abbrev pub last_line : List ℕ → ℕ → List ℕ
 last_line words n = words ++ num n ++ newline
 
+-- the number of the line that is none of the language
 abbrev pub script_fault : ℕ → List ℕ
 script_fault number = last_line (codes "script") number
 
+-- the status at the end of the script
 abbrev pub end_line : ℕ → List ℕ
 end_line status = last_line (codes "end") status
 
+-- the number of the platter that failed at the start
 abbrev pub platter_line : ℕ → List ℕ
 platter_line platter = last_line (codes "platter") platter
 
+-- the script could not be read on
 abbrev pub read_fault : List ℕ
 read_fault = codes "read fault" ++ newline
 
+-- memory ran out
 abbrev pub out_of_memory : List ℕ
 out_of_memory = codes "out of memory" ++ newline
 
+-- the words were others than those of the program
 abbrev pub usage : List ℕ
 usage = codes "usage" ++ newline
 
--- the subject of a line that has to be answered
-abbrev pub subject_asked : Line → Option Subject
-subject_asked (CallLine plus client call) = Some (calls client)
-subject_asked (JobLine plus Clean) = Some cleans
-subject_asked (JobLine plus (Rebuild server)) = Some (rebuilds server.0)
-subject_asked (Steps actor count) = None
-subject_asked (StepTo actor kind) = None
-subject_asked (EventLine event) = Some (subject_of_event event)
+-- a call has its final line, each other subject its line
+abbrev pub has_ended : List Outcome → Subject → ℕ → Bool
+has_ended lines (calls client) n = has_final lines client n
+has_ended lines subject n = has_told lines subject n
 
--- a call has its final line, each other its line
-abbrev pub is_ended : List Outcome → List Line → Option Subject → Bool
-is_ended lines earlier None = true
-is_ended lines earlier (Some (calls client)) = has_final lines client (suc (asked_of (calls client) earlier))
-is_ended lines earlier (Some subject) = has_told lines subject (suc (asked_of subject earlier))
-
+-- each call, job and event of these lines has its last line
 abbrev pub all_ended : List Outcome → List Line → List Line → Bool
-all_ended lines earlier [] = true
-all_ended lines earlier (line ∷ script) = is_ended lines earlier (subject_asked line) && all_ended lines (earlier ++ line ∷ []) script
+all_ended lines = all_met subject_asked (has_ended lines)
 
+-- `unfinished`, for whatever cause
 abbrev pub is_unfinished : Outcome → Bool
 is_unfinished (OfCall client n (Unfinished cause)) = true
 is_unfinished line = false
@@ -100,19 +95,24 @@ EndsSo g TreeTail bytes geo rows rest all end tail =
 abbrev pub Prints : ℕ → List ℕ → ℕ → List ℕ → Type 0
 Prints status printed end text = ((status ≡ end) × (printed ≡ text)) ⊎ ((status ≡ 4) × ((n : ℕ) × (printed ≡ take n text)))
 
--- a run of a script with a header: its lines fit the script, and the text that is printed is theirs and a tail
-pub record RunsScript (g : Grammar) (TreeTail : Tails) (status : ℕ) (bytes printed : List ℕ) : Type 0 where
+-- a run of a script with a header: its lines fit the script, in the order of its lines where one is claimed, and the text
+-- that is printed is theirs and a tail
+pub record RunsScriptBy (ordered : Bool) (g : Grammar) (TreeTail : Tails) (status : ℕ) (bytes printed : List ℕ) : Type 0 where
   pub geo : Geometry
   pub rows : List Row
   pub rest : List ℕ
   pub begins : Begins g bytes geo rows rest
   pub all : List Outcome
   pub valid : AllByRecursion (IsOutcome geo) all
-  pub fits : FitLines true (lines_in rows) all
+  pub fits : FitLines ordered (lines_in rows) all
   pub end : ℕ
   pub tail : List ℕ
   pub ends : EndsSo g TreeTail bytes geo rows rest all end tail
   pub text : Prints status printed end (report_text all ++ tail)
+
+-- the same in a run that goes through the script line by line
+abbrev pub RunsScript : Grammar → Tails → ℕ → List ℕ → List ℕ → Type 0
+RunsScript = RunsScriptBy true
 
 -- the last line of a run that read no line behind a header
 abbrev pub EndsBefore : Grammar → List ℕ → ℕ → List ℕ → Type 0
@@ -122,6 +122,7 @@ EndsBefore g bytes end last =
     ⊎ (((end ≡ 6) × (last ≡ out_of_memory))
     ⊎ ((end ≡ 8) × ((platter : ℕ) × (last ≡ platter_line platter)))))
 
+-- a run of bytes without a header, or one that ended before it read a line behind it
 pub record RunsNone (g : Grammar) (status : ℕ) (bytes printed : List ℕ) : Type 0 where
   pub end : ℕ
   pub last : List ℕ

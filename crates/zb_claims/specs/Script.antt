@@ -10,18 +10,22 @@ pub data Row : Type 0 where
   skipped : List ℕ → Row
   said : Line → Row
 
+-- the bytes of a row
 abbrev pub row_text : Row → List ℕ
 row_text (skipped bytes) = bytes ++ newline
 row_text (said line) = spelled line
 
+-- an empty line, or one that begins with `#`, of at most 16,999 bytes
 abbrev pub is_comment : List ℕ → Bool
 is_comment [] = true
 is_comment (b ∷ bytes) = b == 35 && not (list_any (λ c. c == 10) bytes) && nat_le (length bytes) 16999
 
+-- a row that a script may have
 abbrev pub IsRow : Geometry → Row → Type 0
 IsRow geo (skipped bytes) = IsTrue (is_comment bytes)
 IsRow geo (said line) = IsLine geo line
 
+-- what a row says, if it says something
 abbrev pub line_in : Row → List Line
 line_in (skipped bytes) = []
 line_in (said line) = line ∷ []
@@ -36,12 +40,15 @@ pub record Grammar : Type 1 where
 abbrev pub whole : Grammar
 whole = record { before = λ bytes. IsTrue (is_comment bytes); header = λ geo. Unit {0}; row = IsRow }
 
+-- bytes with the end of a line
 abbrev pub ended_line : List ℕ → List ℕ
 ended_line bytes = bytes ++ newline
 
+-- the bytes of rows
 abbrev pub rows_text : List Row → List ℕ
 rows_text rows = flat_map row_text rows
 
+-- the lines among the rows
 abbrev pub lines_in : List Row → List Line
 lines_in rows = flat_map line_in rows
 

@@ -1,3 +1,4 @@
+pub mod Keys
 pub mod Exclusives
 pub mod Placings
 pub mod Shares

@@ -15,5 +15,3 @@ pub mod Picked
 pub mod Order
 pub mod ReadPoints
 pub mod Rows
-pub mod Faultless
-pub mod Reasoned

@@ -16,9 +16,9 @@ use Rattle.zb_types.specs.declared.lines.Outcome.TheVariants.{Call as OfCall, Cl
 use Rattle.zb_types.specs.Tree.{listing}
 use Rattle.zb_claims.specs.Points.{tree_at}
 use Rattle.zb_claims.specs.Text.{IsOutcome, said_text, line_text, report_text, listed_text, list_text, newline}
-use Rattle.zb_claims.specs.Script.{Grammar, whole, lines_in}
-use Rattle.zb_claims.specs.Runs.{TellsTree, IsDone, IsStarved, Prints, end_line, out_of_memory}
-use Rattle.zb_laws.specs.Printed.{starts_call, starts_line, OneReport, TailsDiffer, LinesAloneDiffer, OneRun}
+use Rattle.zb_claims.specs.Script.{Grammar, Row, whole, lines_in}
+use Rattle.zb_claims.specs.Runs.{Tails, RunsScriptBy, IsDone, IsStarved, EndsSo, Prints, end_line, out_of_memory}
+use Rattle.zb_laws.specs.Printed.{starts_call, starts_line, OneReport, BeginsOtherwise, TreeBeginsOtherwise, TailsDiffer, LinesAloneDiffer, OneRun}
 use Rattle.zb_laws.proofs.Tests.{or_left}
 use Rattle.zb_laws.proofs.Bytes.{first_low}
 use Rattle.zb_laws.proofs.Clean.{small_client}
@@ -72,15 +72,15 @@ tree_differs : (entries : List TreeEntry) (more : List ℕ) → starts_line more
 tree_differs [] more h = h
 tree_differs (e ∷ entries) more h = ap starts_line (append_assoc (listed_text e.path e.listed) (list_text entries) more) ∙ listed_differs e.path e.listed (list_text entries ++ more)
 
-told_differs : (script : List Line) (all : List Outcome) (tree more : List ℕ) → TellsTree script all tree → starts_line more ≡ false → starts_line (tree ++ more) ≡ false
-told_differs script all tree more tells h = ap (λ (l : List ℕ). starts_line (l ++ more)) tells ∙ tree_differs (listing (tree_at script all)) more h
+pub tree_otherwise : TreeBeginsOtherwise
+tree_otherwise script all tree tells more h = ap (λ (l : List ℕ). starts_line (l ++ more)) tells ∙ tree_differs (listing (tree_at script all)) more h
 
-done_differs : (end : ℕ) (script : List Line) (rest : List ℕ) (all : List Outcome) (tail : List ℕ) → IsDone TellsTree end script rest all tail → starts_line tail ≡ false
-done_differs end script rest all tail h = ap starts_line h.text ∙ told_differs script all h.tree (end_line end) h.tells refl
+done_differs : (end : ℕ) (script : List Line) (rest : List ℕ) (all : List Outcome) (tail : List ℕ) → IsDone BeginsOtherwise end script rest all tail → starts_line tail ≡ false
+done_differs end script rest all tail h = ap starts_line h.text ∙ h.tells (end_line end) refl
 
-starved_differs : (script : List Line) (all : List Outcome) (tail : List ℕ) → IsStarved TellsTree script all tail → starts_line tail ≡ false
+starved_differs : (script : List Line) (all : List Outcome) (tail : List ℕ) → IsStarved BeginsOtherwise script all tail → starts_line tail ≡ false
 starved_differs script all tail h =
-    ap starts_line h.text ∙ (elim h.tells as (λ _. starts_line (h.tree ++ out_of_memory) ≡ false) [ inl none ↦ ap (λ (l : List ℕ). starts_line (l ++ out_of_memory)) none | inr tells ↦ told_differs script all h.tree out_of_memory tells refl ])
+    ap starts_line h.text ∙ (elim h.tells as (λ _. starts_line (h.tree ++ out_of_memory) ≡ false) [ inl none ↦ ap (λ (l : List ℕ). starts_line (l ++ out_of_memory)) none | inr tells ↦ tells out_of_memory refl ])
 
 tails_differ : (g : Grammar) → TailsDiffer g
 tails_differ g bytes geo rows rest all end tail (inl h) = done_differs end (lines_in rows) rest all tail h.1
@@ -95,7 +95,7 @@ whole_text status printed end text not (inl h) = h.1
 whole_text status printed end text not (inr h) = absurd (not h.0)
 
 one_run : (g : Grammar) → IsPart g → OneRun g
-one_run g part status bytes printed not run other =
+one_run g part ordered status bytes printed not run other =
     let start = same_start g part bytes run.geo other.geo run.rows other.rows run.rest other.rest run.begins other.begins in
     let same : report_text run.all ++ run.tail ≡ report_text other.all ++ other.tail = sym (whole_text status printed run.end (report_text run.all ++ run.tail) not run.text) ∙ whole_text status printed other.end (report_text other.all ++ other.tail) not other.text in
     let valid : AllByRecursion (IsOutcome run.geo) other.all = subst (λ (x : Geometry). AllByRecursion (IsOutcome x) other.all) (sym start.geometry) other.valid in
@@ -113,3 +113,37 @@ lines_alone bytes end last (inl h) = ap starts_line h.1.2
 lines_alone bytes end last (inr (inl h)) = ap starts_line h.1
 lines_alone bytes end last (inr (inr (inl h))) = ap starts_line h.1
 lines_alone bytes end last (inr (inr (inr h))) = ap starts_line h.1.1
+
+-- A run that tells anything for the tree that begins otherwise is such a run.
+
+module _ (T : Tails) (otherwise : (script : List Line) (all : List Outcome) (text : List ℕ) → T script all text → BeginsOtherwise script all text) where
+  otherwise_done : (end : ℕ) (script : List Line) (rest : List ℕ) (all : List Outcome) (tail : List ℕ) → IsDone T end script rest all tail → IsDone BeginsOtherwise end script rest all tail
+  otherwise_done end script rest all tail h = record { read = h.read; ended = h.ended; unfinished = h.unfinished; tree = h.tree; tells = otherwise script all h.tree h.tells; text = h.text }
+
+  otherwise_starved : (script : List Line) (all : List Outcome) (tail : List ℕ) → IsStarved T script all tail → IsStarved BeginsOtherwise script all tail
+  otherwise_starved script all tail h = record {
+    tree = h.tree;
+    tells = elim h.tells [ inl none ↦ inl none | inr tells ↦ inr (otherwise script all h.tree tells) ];
+    text = h.text;
+  }
+
+  otherwise_ends : (g : Grammar) (bytes : List ℕ) (geo : Geometry) (rows : List Row) (rest : List ℕ) (all : List Outcome) (end : ℕ) (tail : List ℕ) → EndsSo g T bytes geo rows rest all end tail → EndsSo g BeginsOtherwise bytes geo rows rest all end tail
+  otherwise_ends g bytes geo rows rest all end tail (inl h) = inl (h.0, otherwise_done end (lines_in rows) rest all tail h.1)
+  otherwise_ends g bytes geo rows rest all end tail (inr (inl h)) = inr (inl h)
+  otherwise_ends g bytes geo rows rest all end tail (inr (inr (inl h))) = inr (inr (inl h))
+  otherwise_ends g bytes geo rows rest all end tail (inr (inr (inr h))) = inr (inr (inr (h.0, otherwise_starved (lines_in rows) all tail h.1)))
+
+  pub otherwise_run : (ordered : Bool) (g : Grammar) (status : ℕ) (bytes printed : List ℕ) → RunsScriptBy ordered g T status bytes printed → RunsScriptBy ordered g BeginsOtherwise status bytes printed
+  otherwise_run ordered g status bytes printed run = record {
+    geo = run.geo;
+    rows = run.rows;
+    rest = run.rest;
+    begins = run.begins;
+    all = run.all;
+    valid = run.valid;
+    fits = run.fits;
+    end = run.end;
+    tail = run.tail;
+    ends = otherwise_ends g bytes run.geo run.rows run.rest run.all run.end run.tail run.ends;
+    text = run.text;
+  }

@@ -2,5 +2,4 @@ pub mod Texts
 pub mod Histories
 pub mod Worked
 pub mod Readings
-pub mod Calm
 pub mod Printed

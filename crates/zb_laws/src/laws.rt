@@ -4,8 +4,7 @@ ghost use Rattle.zb_laws.specs.Readings.{RowsAgree, OneReading, OneStop, HeaderO
 ghost use Rattle.zb_claims.specs.Script.{whole};
 ghost use Rattle.zb_laws.specs.Histories.{FrontFits, TellsLegal, InOrder};
 ghost use Rattle.zb_claims.specs.Runs.{usage};
-ghost use Rattle.zb_laws.specs.Printed.{OneReport, TailsDiffer, OneRun, LinesAloneDiffer, starts_line};
-ghost use Rattle.zb_laws.specs.Calm.{CalmIsFaultless, RowsReasoned};
+ghost use Rattle.zb_laws.specs.Printed.{OneReport, TreeBeginsOtherwise, TailsDiffer, OneRun, LinesAloneDiffer, starts_line};
 ghost use Rattle.zb_laws.specs.Worked.{RowsFit, WrongUnfit};
 
 /// Each front of a report that fits is one that fits.
@@ -68,8 +67,9 @@ pub fn one_report()
     ensures { OneReport }
 {}
 
-/// What stands behind the lines of a run, or without any, starts otherwise.
+/// What stands behind the lines of a run, or without any, starts otherwise, whatever stands for the tree that does so.
 pub fn tails_differ()
+    ensures tree { TreeBeginsOtherwise }
     ensures behind_lines { TailsDiffer whole }
     ensures alone { LinesAloneDiffer whole }
     ensures usage { starts_line usage ≡ false }
@@ -88,14 +88,4 @@ pub fn rows_fit()
 /// Wrong reports don't fit.
 pub fn wrong_unfit()
     ensures { WrongUnfit }
-{}
-
-/// Where no event and no rebuild came before, and no device failed, a line that has a reason tells no fault.
-pub fn calm_is_faultless()
-    ensures { CalmIsFaultless }
-{}
-
-/// The lines of the worked rows have their reasons by the events alone.
-pub fn rows_reasoned()
-    ensures { RowsReasoned }
 {}

@@ -4,7 +4,7 @@
 mod laws;
 
 pub use laws::{
-    calm_is_faultless, front_fits, front_lines, header_or_none, in_order, no_front, one_reading,
-    one_report, one_run, one_spelling, one_stop, rows_agree, rows_fit, rows_reasoned, same_lines,
-    tails_differ, tells_legal, wrong_unfit,
+    front_fits, front_lines, header_or_none, in_order, no_front, one_reading, one_report, one_run,
+    one_spelling, one_stop, rows_agree, rows_fit, same_lines, tails_differ, tells_legal,
+    wrong_unfit,
 };

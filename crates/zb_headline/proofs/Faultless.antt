@@ -21,8 +21,8 @@ use Rattle.zb_types.specs.declared.lines.Told.TheVariants.{Arm}
 use Rattle.zb_types.specs.declared.lines.Outcome.{Outcome}
 use Rattle.zb_types.specs.declared.lines.Outcome.TheVariants.{Call as OfCall, Clean as OfClean, Rebuild as OfRebuild, Event as OfEvent}
 use Rattle.zb_claims.specs.Points.{Subject, calls, cleans, crashes, ups, rebuilds, asked, told_of, is_begun, is_event, stands_from, stands}
-use Rattle.zb_claims.specs.Reasons.{Place, Rose, WasArmed, is_copied, puts_up, is_lost, takes_down, breaks, platter_of, crashed_from, dropped_in, ServerReason, ManagerReason, NodeReason, CauseReason, is_blank, HasReason}
-use Rattle.zb_laws.specs.Calm.{calm, place, befalls, is_faultless, CalmIsFaultless}
+use Rattle.zb_headline.specs.Reasons.{Place, Rose, WasArmed, is_copied, puts_up, is_lost, takes_down, breaks, platter_of, crashed_from, dropped_in, ServerReason, ManagerReason, NodeReason, CauseReason, is_blank, MendedFails, HasReason}
+use Rattle.zb_headline.specs.Calm.{calm, place, befalls, is_faultless, CalmIsFaultless}
 use Rattle.zb_laws.proofs.Tests.{first_false, last_false, any_middle, any_later}
 
 -- Tests that only an event's line passes.
@@ -75,23 +75,23 @@ not_crashed : (a b : Bool) → a ≡ false → (a || (false && b)) ≡ false
 not_crashed true b h = absurd cc
 not_crashed false b h = refl
 
-never_crashed : (script : List Line) (node : Node) (at : ℕ) (seen lines : List Outcome) → list_any befalls lines ≡ false → crashed_from false script node at seen lines ≡ false
-never_crashed script node at seen [] h = refl
-never_crashed script node at seen (line ∷ lines) h =
-    ap (λ (b : Bool). crashed_from b script node at (seen ++ line ∷ []) lines) (not_crashed (is_event (crashes node) line) (not (is_event (ups node) line) || is_begun script seen at) (not_event (crashes node) line (first_false (befalls line) (list_any befalls lines) h)))
-    ∙ never_crashed script node at (seen ++ line ∷ []) lines (last_false (befalls line) (list_any befalls lines) h)
+never_crashed : (at : Place) (node : Node) (place : ℕ) (seen lines : List Outcome) → list_any befalls lines ≡ false → crashed_from false at node place seen lines ≡ false
+never_crashed at node place seen [] h = refl
+never_crashed at node place seen (line ∷ lines) h =
+    ap (λ (b : Bool). crashed_from b at node place (seen ++ line ∷ []) lines) (not_crashed (is_event (crashes node) line) (not (is_event (ups node) line) || at.clock.begun seen place) (not_event (crashes node) line (first_false (befalls line) (list_any befalls lines) h)))
+    ∙ never_crashed at node place (seen ++ line ∷ []) lines (last_false (befalls line) (list_any befalls lines) h)
 
 -- Where only calls and passes have lines.
 
-module _ (script : List Line) (before : List Outcome) (faults : ℕ → ℕ) (writes : ℕ → ℕ → ℕ) (writes_now : ℕ → ℕ) (quiet : list_any befalls before ≡ false) where
+module _ (script : List Line) (before : List Outcome) (writes : ℕ → ℕ → ℕ) (quiet : list_any befalls before ≡ false) where
   abbrev here : Place
-  here = place (calm faults writes writes_now) script before
+  here = place (calm writes) script before
 
   no_stand : {X : Type 0} (causes marks : Outcome → Bool) → IsOfEvents causes → stands causes marks before ≡ true → X
   no_stand causes marks of h = let e : true ≡ false = sym h ∙ never_stands causes marks before of quiet in absurd cc
 
   no_rise : {X : Type 0} (marks : Outcome → Bool) (platter : ℕ) → Rose here marks platter → X
-  no_rise marks platter r = absurd (omega (arith, r.rose))
+  no_rise marks platter r = absurd r.holds
 
   no_arm : {X : Type 0} (node : Node) (platter : ℕ) → WasArmed here node platter → X
   no_arm node platter r =
@@ -101,7 +101,7 @@ module _ (script : List Line) (before : List Outcome) (faults : ℕ → ℕ) (wr
   no_server i (inl h) = no_stand (takes_down i) (puts_up i) (record { none = not_down i }) h
   no_server i (inr (inl h)) = no_rise (puts_up i) i h
   no_server i (inr (inr (inl h))) = no_arm (Server i) i h
-  no_server i (inr (inr (inr h))) = absurd h.0
+  no_server i (inr (inr (inr h))) = absurd (h.unfit refl)
 
   no_manager : {X : Type 0} → ManagerReason here → X
   no_manager (inl h) = no_stand (is_event (crashes Manager)) (is_event (ups Manager)) (event_of (crashes Manager)) h
@@ -123,9 +123,9 @@ module _ (script : List Line) (before : List Outcome) (faults : ℕ → ℕ) (wr
   no_blank : {X : Type 0} (i : ℕ) → is_blank here i → X
   no_blank i h = no_stand (is_lost i) (is_copied i) (record { none = not_lost i }) h
 
-  no_drop : {X : Type 0} (node : Node) (found : Option (ℕ × Line)) → dropped_in script before node found ≡ true → X
+  no_drop : {X : Type 0} (node : Node) (found : Option (ℕ × Line)) → dropped_in here node found ≡ true → X
   no_drop node None h = absurd cc
-  no_drop node (Some found) h = let e : true ≡ false = sym h ∙ never_crashed script node found.0 [] before quiet in absurd cc
+  no_drop node (Some found) h = let e : true ≡ false = sym h ∙ never_crashed here node found.0 [] before quiet in absurd cc
 
   no_break : {X : Type 0} (i : ℕ) (front rest : List Outcome) → before ≡ front ++ rest → list_any (breaks i) rest ≡ true → X
   no_break i front rest split h =
@@ -145,15 +145,15 @@ module _ (script : List Line) (before : List Outcome) (faults : ℕ → ℕ) (wr
   faultless_pass (PassFailed cause) h = no_cause 0 cause h
   faultless_pass PassDropped h = no_drop Cleaner (asked script cleans (suc (told_of cleans before))) h
 
-  faultless_server : {X : Type 0} (i : ℕ) → HasReason here (OfRebuild (record { 0 = i }) FailedServer) → X
-  faultless_server {X = X} i (inl h) = elim h.holds as (λ _. X) [ inl b ↦ no_break i h.front h.rest h.split b | inr r ↦ absurd (omega (arith, r)) ]
+  faultless_server : {X : Type 0} (i : ℕ) → MendedFails here i → X
+  faultless_server {X = X} i (inl h) = elim h.holds as (λ _. X) [ inl b ↦ no_break i h.front h.rest h.split b | inr r ↦ absurd r ]
   faultless_server i (inr h) = absurd h
 
   faultless_rebuild : (server : ServerId) (end : Mended) → HasReason here (OfRebuild server end) → is_faultless (OfRebuild server end) ≡ true
   faultless_rebuild server (Copied count) h = refl
   faultless_rebuild server (RefusedFor other) h = no_server other.0 h
   faultless_rebuild server (MendFailed cause) h = no_cause 0 cause h
-  faultless_rebuild server FailedServer h = faultless_server server.0 h
+  faultless_rebuild server FailedServer h = faultless_server server.0 (h refl)
   faultless_rebuild server MendDropped h = no_drop Mender (asked script (rebuilds server.0) (suc (told_of (rebuilds server.0) before))) h
 
   named_out : {X : Type 0} (i : ℕ) → ⊥ ⊎ (is_blank here i ⊎ ManagerReason here) → X
@@ -166,8 +166,8 @@ module _ (script : List Line) (before : List Outcome) (faults : ℕ → ℕ) (wr
   named_another i (inr h) = no_blank i h
 
   stopped : {X : Type 0} (node : Node) (event : Told) → HasReason here (OfEvent event (Stopped node)) → X
-  stopped node event (inl h) = absurd (omega (arith, h))
-  stopped node event (inr h) = no_arm node (platter_of node) h
+  stopped node event (inl h) = absurd h
+  stopped node event (inr h) = no_arm node (platter_of node) h.1
 
   faultless_event : (event : Told) (answer : EventAnswer) → HasReason here (OfEvent event answer) → is_faultless (OfEvent event answer) ≡ true
   faultless_event event EventDone h = refl
@@ -181,7 +181,7 @@ module _ (script : List Line) (before : List Outcome) (faults : ℕ → ℕ) (wr
   faultless_event event (Stopped node) h = stopped node event h
 
 pub calm_is_faultless : CalmIsFaultless
-calm_is_faultless script before (OfCall client n said) faults writes writes_now quiet h = faultless_said script before faults writes writes_now quiet client n said h
-calm_is_faultless script before (OfClean pass) faults writes writes_now quiet h = faultless_pass script before faults writes writes_now quiet pass h
-calm_is_faultless script before (OfRebuild server end) faults writes writes_now quiet h = faultless_rebuild script before faults writes writes_now quiet server end h
-calm_is_faultless script before (OfEvent event answer) faults writes writes_now quiet h = faultless_event script before faults writes writes_now quiet event answer h
+calm_is_faultless script before (OfCall client n said) writes quiet h = faultless_said script before writes quiet client n said h
+calm_is_faultless script before (OfClean pass) writes quiet h = faultless_pass script before writes quiet pass h
+calm_is_faultless script before (OfRebuild server end) writes quiet h = faultless_rebuild script before writes quiet server end h
+calm_is_faultless script before (OfEvent event answer) writes quiet h = faultless_event script before writes quiet event answer h

@@ -1,5 +1,5 @@
 -- Reasons: where nothing befell no line tells a fault, and the faults of the worked rows have their reasons.
-use Rattle.std.specs.Prelude.{◌≡◌, ℕ, Bool, true, false, List, [], ◌∷◌, ◌++◌}
+use Rattle.std.specs.Prelude.{◌≡◌, ℕ, ◌≤◌, Bool, true, false, List, [], ◌∷◌, ◌++◌}
 use Rattle.std.specs.List.{list_any}
 use Rattle.zb_types.specs.declared.nodes.EventAnswer.TheVariants.{Done as EventDone, Up as IsUp}
 use Rattle.zb_types.specs.declared.lines.Line.{Line}
@@ -8,16 +8,15 @@ use Rattle.zb_types.specs.declared.lines.Pass.TheVariants.{Nothing, Done as Pass
 use Rattle.zb_types.specs.declared.lines.Mended.TheVariants.{Copied}
 use Rattle.zb_types.specs.declared.lines.Outcome.{Outcome}
 use Rattle.zb_types.specs.declared.lines.Outcome.TheVariants.{Call as OfCall, Clean as OfClean, Rebuild as OfRebuild, Event as OfEvent}
-use Rattle.zb_claims.specs.Reasons.{Shown, Place, HasReason}
+use Rattle.zb_claims.specs.Fits.{clock_of_run}
+use Rattle.zb_headline.specs.Reasons.{Shown, Place, HasReason}
 use Rattle.zb_claims.specs.Rows.{hello_script, hello_report, two_script, two_report, armed_script, armed_report, dropped_script, dropped_report, down_script, down_report, eight_script, seven_lines, eight_lines}
 
--- no device failed, each server is fit and has room; `writes` platter, lines printed, and now
-abbrev pub calm : (ℕ → ℕ) → (ℕ → ℕ → ℕ) → (ℕ → ℕ) → Shown
-calm faults writes writes_now = record {
-  faults = λ platter n. faults platter;
-  writes = writes;
-  faults_now = faults;
-  writes_now = writes_now;
+-- no device failed, each server is fit and has room; so many writes came to a platter since n lines stood
+abbrev pub calm : (ℕ → ℕ → ℕ) → Shown
+calm writes = record {
+  rose = λ platter n. ⊥;
+  wrote = λ platter n count. count ≤ writes platter n;
   unfit = λ i. ⊥;
   released = λ log stripe. ⊥;
   named = λ i. ⊥;
@@ -29,8 +28,9 @@ calm faults writes writes_now = record {
   cited = λ log stripe. ⊥;
 }
 
+-- the place behind these lines in a run that goes through the script line by line
 abbrev pub place : Shown → List Line → List Outcome → Place
-place shown script before = record { script = script; before = before; shown = shown }
+place shown script before = record { script = script; clock = clock_of_run true script; before = before; shown = shown }
 
 -- an event's line, or that of a rebuild
 abbrev pub befalls : Outcome → Bool
@@ -52,15 +52,16 @@ is_faultless line = false
 
 -- where no event and no rebuild came before, and no device failed, a line that has a reason tells no fault
 abbrev pub CalmIsFaultless : Type 0
-CalmIsFaultless = (script : List Line) (before : List Outcome) (line : Outcome) (faults : ℕ → ℕ) (writes : ℕ → ℕ → ℕ) (writes_now : ℕ → ℕ) → list_any befalls before ≡ false → HasReason (place (calm faults writes writes_now) script before) line → is_faultless line ≡ true
+CalmIsFaultless = (script : List Line) (before : List Outcome) (line : Outcome) (writes : ℕ → ℕ → ℕ) → list_any befalls before ≡ false → HasReason (place (calm writes) script before) line → is_faultless line ≡ true
 
+-- each line has its reason, by what is seen of the run
 abbrev pub ReasonsFrom : Shown → List Line → List Outcome → List Outcome → Type 0
 ReasonsFrom shown script before [] = Unit {0}
 ReasonsFrom shown script before (line ∷ lines) = HasReason (place shown script before) line × ReasonsFrom shown script (before ++ line ∷ []) lines
 
 -- each line has its reason, where this many writes came to each platter behind the first line
 abbrev pub AreReasoned : ℕ → List Line → List Outcome → Type 0
-AreReasoned written script lines = ReasonsFrom (calm (λ platter. 0) (λ platter n. 0) (λ platter. written)) script [] lines
+AreReasoned written script lines = ReasonsFrom (calm (λ platter n. written)) script [] lines
 
 -- the lines of the worked rows have their reasons by the events alone; the armed platter stops at its second write
 pub record RowsReasoned : Type 0 where

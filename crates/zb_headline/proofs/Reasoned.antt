@@ -2,13 +2,13 @@
 use Rattle.std.proofs.Common.{[], refl, arith, inl, inr}
 use Rattle.std.specs.Prelude.{take}
 use Rattle.zb_types.specs.declared.nodes.Node.TheVariants.{Manager}
-use Rattle.zb_claims.specs.Reasons.{WasArmed}
+use Rattle.zb_headline.specs.Reasons.{WasArmed}
 use Rattle.zb_claims.specs.Rows.{armed_script, armed_report}
-use Rattle.zb_laws.specs.Calm.{calm, place, RowsReasoned}
+use Rattle.zb_headline.specs.Calm.{calm, place, RowsReasoned}
 
 -- the platter was armed for two writes, and two have come
-stopped : WasArmed (place (calm (λ platter. 0) (λ platter n. 0) (λ platter. 2)) armed_script (take 3 armed_report)) Manager 0
-stopped = record { front = take 2 armed_report; rest = []; split = refl; since = refl; copies = refl; place = 2; count = 2; is = refl; spent = inl (omega arith) }
+stopped : WasArmed (place (calm (λ platter n. 2)) armed_script (take 3 armed_report)) Manager 0
+stopped = record { front = take 2 armed_report; rest = []; split = refl; spent = λ _. record { since = refl; copies = refl; place = 2; count = 2; is = refl; spent = omega arith } }
 
 pub rows_reasoned : RowsReasoned
 rows_reasoned = record {

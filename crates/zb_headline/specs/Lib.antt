@@ -1,0 +1,9 @@
+pub mod Sights
+pub mod Reasons
+pub mod Spans
+pub mod Ahead
+pub mod Need
+pub mod Headline
+pub mod Complete
+pub mod Calm
+pub mod Wrong

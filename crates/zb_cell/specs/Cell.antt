@@ -11,6 +11,7 @@ window f at (suc n) = f at ∷ window f (at + 1) n
 abbrev pub counts : (ℕ → ℕ) → ℕ → Bool
 counts f at = (f at == 1) && nat_lt (f (at + 1)) 3
 
+-- the turn that follows
 abbrev pub following : ℕ → ℕ
 following turn = (turn + 1) % 3
 

@@ -13,5 +13,6 @@ pub record IsFree (f : ℕ → ℕ) (at other turn : ℕ) : Type 0 where
   pub follows : counts f other ≡ true → turn ≡ following (f (other + 1))
   pub small : turn < 3
 
+-- this copy is free, with its turn and whether its gate stands open
 abbrev pub Works : (ℕ → ℕ) → Work → Type 0
 Works f w = (w.is_open ≡ (f w.at == 1)) × (((w.at ≡ 0) × IsFree f 0 64 w.turn) ⊎ ((w.at ≡ 64) × IsFree f 64 0 w.turn))

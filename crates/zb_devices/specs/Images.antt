@@ -47,6 +47,7 @@ module _ (at : ℕ) (bytes old : List ℕ) where
         ∙ get_or-drop end whole (i - end) 0 ∙ ap (slice_index whole) (omega arith) ∙ whole_at i;
   }
 
+-- what was written may be torn so
 pub torn_written : {at : ℕ} {bytes old new : List ℕ} → Written at bytes old new → Torn at (length bytes) old new
 torn_written w = record { no_shorter = omega (arith, w.size); no_longer = omega (arith, w.size); below = λ i lt h. w.below i h; above = λ i lt h. w.above i h }
 
@@ -64,6 +65,7 @@ change_keeps Blanked s h = refl
 change_keeps Fault s h = h
 change_keeps (WriteFault at n) s h = torn_more s.ranges (at, n) s.base s.seen s.seen h (torn_same at n s.seen)
 
+-- an event keeps what a read gives among the images
 step_keeps : (p : ℕ) (e : Event) (s : PlatterState) → MayLeave s s.seen → MayLeave (step p e s) (step p e s).seen
 step_keeps p (At q x) s h = either (q == p)
   where
@@ -75,9 +77,11 @@ step_keeps p (Printed bytes) s h = h
 step_keeps p TakeFault s h = h
 step_keeps p PutFault s h = h
 
+-- and so do events
 after_keeps : (p : ℕ) (es : List Event) (s : PlatterState) → MayLeave s s.seen → MayLeave (after p es s) (after p es s).seen
 after_keeps p [] s h = h
 after_keeps p (e ∷ es) s h = after_keeps p es (step p e s) (step_keeps p e s h)
 
+-- a crash may leave what a read gives
 pub seen_may_be_left : (es : List Event) (p : ℕ) → MayLeave (stands es p) (stands es p).seen
 seen_may_be_left es p = after_keeps p es fresh refl

@@ -1,9 +1,10 @@
 -- What callers see of an outside in memory beside its meaning.
-use Rattle.std.specs.Prelude.{◌≡◌, ◌≤◌, ℕ, ◌+◌, ◌-◌, ◌^◌, min, Bool, not, ◌==◌, List, slice_index, refl}
+use Rattle.std.specs.Prelude.{◌≡◌, ◌≤◌, ℕ, ◌+◌, ◌-◌, ◌^◌, min, Bool, not, ◌==◌, List, Result, slice_index, refl}
 use Rattle.std.specs.List.{list_any}
 use Rattle.std.proofs.Common.{◌∙◌, arith}
 use Rattle.zb_outside.specs.Meaning.{Meaning}
 use Rattle.zb_devices.specs.Memory.{meaning_of_device, counts_of_device, platter_of_device}
+use Rattle.zb_devices.specs.Answers.{Answers, StreamAnswers}
 use Rattle.zb_devices.specs.Record.{PlatterState}
 use Rattle.zb_outside.specs.Counts.{Counts}
 use Rattle.zb_devices.specs.declared.mem_outside.MemOutside.{MemOutside}
@@ -55,6 +56,15 @@ next_call outside = min (calls_of outside + 1) (2 ^ 64 - 1)
 -- the number of the next device call stands among those that fail
 abbrev pub is_due : MemOutside → Bool
 is_due outside = list_any (λ n. n == next_call outside) (failing_of outside)
+
+-- a call of platter p answers as it is due, and leaves the platter done or failed
+abbrev pub AnswersAs : {T E : Type 0} → ℕ → Result T E → MemOutside → MemOutside → (PlatterState → PlatterState) → (PlatterState → PlatterState) → Type 0
+AnswersAs p result old new done undone =
+    Answers p (is_due old) (is_recording new) result (starved_of old) (starved_of new) (platter_of old) (platter_of new) (done (platter_of old p)) (undone (platter_of old p))
+
+-- a call of a stream answers as it is due
+abbrev pub StreamAnswersAs : {T E : Type 0} → Result T E → MemOutside → MemOutside → Type 0
+StreamAnswersAs result old new = StreamAnswers (is_due old) (is_recording new) result (starved_of old) (starved_of new) (platter_of old) (platter_of new)
 
 -- calls leave what is to fail and what restarts leave, and their numbers never fall
 pub record MemFollows (old new : MemOutside) : Type 0 where

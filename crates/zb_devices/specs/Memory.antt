@@ -1,5 +1,5 @@
 -- What an outside in memory means, by its record, and what it keeps.
-use Rattle.std.specs.Prelude.{◌≡◌, ℕ, ◌<◌, ◌≤◌, Bool, true, false, not, List, [], ◌∷◌, ◌++◌, length, drop, slice_index, slice_index_or}
+use Rattle.std.specs.Prelude.{◌≡◌, ℕ, ◌<◌, ◌≤◌, Bool, true, false, not, List, [], ◌∷◌, ◌++◌, length, drop, Result, slice_index, slice_index_or}
 use Rattle.std.proofs.Common.{refl, sym, subst, arith}
 use Rattle.std.proofs.lemmas.List.{take_all}
 use Rattle.zb_outside.specs.Meaning.{Moment, IsMoment, Meaning, During, Remembers}
@@ -7,6 +7,7 @@ use Rattle.zb_outside.specs.Ranges.{Torn}
 use Rattle.zb_outside.specs.Runs.{Ticks}
 use Rattle.zb_outside.specs.Counts.{Counts, AreExact, raised, at_last}
 use Rattle.zb_outside.specs.Streams.{Streams, AreCounted, SparesAll}
+use Rattle.zb_devices.specs.Answers.{Answers, Refuses, StreamAnswers}
 use Rattle.zb_devices.specs.Record.{PlatterState, fresh, stands, flows, standing, stood, Since, Tally, IsTallied}
 use Rattle.zb_devices.specs.declared.device.Event.{Event}
 use Rattle.zb_devices.specs.declared.device.Device.{Device}
@@ -100,6 +101,19 @@ pub record Same (old new : Device) : Type 0 where
 abbrev pub platter_of_device : Device → ℕ → PlatterState
 platter_of_device d p = stands d.events.items p
 
+-- a call of platter p that is due to fail or not answers so, and leaves the platter done or failed
+abbrev pub AnswersOf : {T E : Type 0} → ℕ → Bool → Result T E → Device → Device → (PlatterState → PlatterState) → (PlatterState → PlatterState) → Type 0
+AnswersOf p is_due result old new done undone =
+    Answers p is_due (not new.is_frozen) result old.starved new.starved (platter_of_device old) (platter_of_device new) (done (platter_of_device old p)) (undone (platter_of_device old p))
+
+-- a call of platter p that fails answers so
+abbrev pub RefusesOf : ℕ → Bool → Device → Device → (PlatterState → PlatterState) → Type 0
+RefusesOf p is_due old new undone = Refuses p is_due (not new.is_frozen) old.starved new.starved (platter_of_device old) (platter_of_device new) (undone (platter_of_device old p))
+
+-- a call of a stream that is due to fail or not answers so
+abbrev pub StreamAnswersOf : {T E : Type 0} → Bool → Result T E → Device → Device → Type 0
+StreamAnswersOf is_due result old new = StreamAnswers is_due (not new.is_frozen) result old.starved new.starved (platter_of_device old) (platter_of_device new)
+
 -- a write failed: what it may have torn may be left, and reads give what they gave
 pub record Spoils (p at : ℕ) (bytes : List ℕ) (old new : Meaning) : Type 0 where
   pub ticks : Ticks p old new
@@ -122,11 +136,13 @@ pub record FailsStream (old new : Device) : Type 0 where
   pub writes : new.counts.writes ≡ old.counts.writes
   pub states : (p : ℕ) → platter_of_device new p ≡ platter_of_device old p
 
+-- what a take that failed leaves, with its count
 pub record FailsTake (old new : Device) : Type 0 where
   pub stream : FailsStream old new
   pub read_faults : new.counts.read_faults ≡ raised old.counts.read_faults
   pub write_faults : new.counts.write_faults ≡ old.counts.write_faults
 
+-- what a put that failed leaves, with its count
 pub record FailsPut (old new : Device) : Type 0 where
   pub stream : FailsStream old new
   pub write_faults : new.counts.write_faults ≡ raised old.counts.write_faults
@@ -136,6 +152,7 @@ pub record FailsPut (old new : Device) : Type 0 where
 abbrev pub AllEmpty : List Plate → Type 0
 AllEmpty plates = (p : ℕ) (x : Plate) → p < length plates → Shows (slice_index_or plates p x) fresh
 
+-- what isn't so is false
 not_frozen : (b : Bool) → not b ≡ true → b ≡ false
 not_frozen false h = refl
 not_frozen true h = absurd (cc h)

@@ -16,6 +16,7 @@ abbrev pub undone : List Unsynced → List ℕ → List ℕ
 undone [] image = image
 undone (u ∷ us) image = restored u (undone us image)
 
+-- the ranges, with none of what stood there
 abbrev pub ranges_of : List Unsynced → List (ℕ × ℕ)
 ranges_of [] = []
 ranges_of (u ∷ us) = (u.place, u.count) ∷ ranges_of us

@@ -25,6 +25,7 @@ pub record PlatterState : Type 0 where
   pub faults : ℕ
   pub writes : ℕ
 
+-- a platter that was never written
 abbrev pub fresh : PlatterState
 fresh = record { seen = []; base = []; ranges = []; faults = 0; writes = 0 }
 
@@ -36,9 +37,11 @@ written at bytes s = record { seen = overlaid s.seen at bytes; base = s.base; ra
 abbrev pub becomes : List ℕ → PlatterState → PlatterState
 becomes image s = record { seen = image; base = image; ranges = []; faults = s.faults; writes = s.writes }
 
+-- after a sync
 abbrev pub synced : PlatterState → PlatterState
 synced s = becomes s.seen s
 
+-- after a blank
 abbrev pub blanked : PlatterState → PlatterState
 blanked s = becomes [] s
 
@@ -51,6 +54,7 @@ filled byte (r ∷ rs) image = filled byte rs (overlaid image r.0 (replicate r.1
 abbrev pub chosen : ℕ → PlatterState → List ℕ
 chosen choice s = if choice == 0 then s.base else (if choice == 1 then s.seen else filled choice s.ranges s.base)
 
+-- after a restart
 abbrev pub restarted : ℕ → PlatterState → PlatterState
 restarted choice s = becomes (chosen choice s) s
 
@@ -62,6 +66,7 @@ failed s = record { seen = s.seen; base = s.base; ranges = s.ranges; faults = ra
 abbrev pub write_failed : ℕ → ℕ → PlatterState → PlatterState
 write_failed at n s = record { seen = s.seen; base = s.base; ranges = s.ranges ++ (at, n) ∷ []; faults = raised s.faults; writes = raised s.writes }
 
+-- after what a call did
 abbrev pub changed : Change → PlatterState → PlatterState
 changed (Wrote at bytes) s = written at bytes.items s
 changed Synced s = synced s
@@ -78,6 +83,7 @@ step p (Printed bytes) s = s
 step p TakeFault s = s
 step p PutFault s = s
 
+-- after these events, one behind the other
 abbrev pub after : ℕ → List Event → PlatterState → PlatterState
 after p [] s = s
 after p (e ∷ es) s = after p es (step p e s)
@@ -93,9 +99,11 @@ pub record Flow : Type 0 where
   pub read_faults : ℕ
   pub write_faults : ℕ
 
+-- before anything was taken or printed
 abbrev pub still : Flow
 still = record { taken = 0; printed = []; read_faults = 0; write_faults = 0 }
 
+-- what an event does to the streams
 abbrev pub flowed : Event → Flow → Flow
 flowed (Took n) f = record { taken = f.taken + n; printed = f.printed; read_faults = f.read_faults; write_faults = f.write_faults }
 flowed (Printed bytes) f = record { taken = f.taken; printed = f.printed ++ bytes.items; read_faults = f.read_faults; write_faults = f.write_faults }
@@ -103,6 +111,7 @@ flowed TakeFault f = record { taken = f.taken; printed = f.printed; read_faults 
 flowed PutFault f = record { taken = f.taken; printed = f.printed; read_faults = f.read_faults; write_faults = raised f.write_faults }
 flowed (At p change) f = f
 
+-- what events do to the streams, one behind the other
 abbrev pub flow_after : List Event → Flow → Flow
 flow_after [] f = f
 flow_after (e ∷ es) f = flow_after es (flowed e f)
@@ -116,6 +125,7 @@ abbrev pub TornBy : List (ℕ × ℕ) → List ℕ → List ℕ → Type 0
 TornBy [] base image = image ≡ base
 TornBy (r ∷ rs) base image = (former : List ℕ) × Torn r.0 r.1 base former × TornBy rs former image
 
+-- a crash may leave this of the platter
 abbrev pub MayLeave : PlatterState → List ℕ → Type 0
 MayLeave s image = TornBy s.ranges s.base image
 

@@ -4,8 +4,7 @@ ghost use Rattle.zb_outside.specs.Counts.{Raises, Touches, TouchesScript, Touche
 ghost use Rattle.zb_outside.specs.Platters.{ReadTold, WriteTold, SyncTold, RestartTold, BlankTold};
 ghost use Rattle.zb_outside.specs.Runs.{Held};
 ghost use Rattle.zb_outside.specs.Streams.{TakeTold, PutTold};
-ghost use Rattle.zb_devices.specs.Answers.{Answers, Refuses, StreamAnswers};
-ghost use Rattle.zb_devices.specs.Memory.{IsKept, meaning_of_device, counts_of_device, streams_of_device, platter_of_device, AnyFollows, FailsTake, FailsPut, Spoils};
+ghost use Rattle.zb_devices.specs.Memory.{IsKept, meaning_of_device, counts_of_device, streams_of_device, platter_of_device, AnswersOf, RefusesOf, StreamAnswersOf, AnyFollows, FailsTake, FailsPut, Spoils};
 ghost use Rattle.zb_devices.specs.Record.{written, write_failed, failed, synced, restarted, blanked};
 
 use crate::device::Device;
@@ -114,7 +113,7 @@ impl Device {
         ensures writes { self.new.counts.writes ≡ self.old.counts.writes }
         ensures streams { streams_of_device self.new ≡ streams_of_device self.old }
         ensures starved { self.old.starved ≤ self.new.starved }
-        ensures refuses { Refuses platter is_due (not self.new.is_frozen) self.old.starved self.new.starved (platter_of_device self.old) (platter_of_device self.new) (failed (platter_of_device self.old platter)) }
+        ensures refuses { RefusesOf platter is_due self.old self.new failed }
     {
         let is_noted = self.fail(platter);
         self.starve(!is_due || !is_noted);
@@ -131,7 +130,7 @@ impl Device {
         ensures writes { Raises platter (slice_index self.old.counts.writes) (slice_index self.new.counts.writes) }
         ensures streams { streams_of_device self.new ≡ streams_of_device self.old }
         ensures starved { self.old.starved ≤ self.new.starved }
-        ensures refuses { Refuses platter is_due (not self.new.is_frozen) self.old.starved self.new.starved (platter_of_device self.old) (platter_of_device self.new) (write_failed place (length bytes.now) (platter_of_device self.old platter)) }
+        ensures refuses { RefusesOf platter is_due self.old self.new (write_failed place (length bytes.now)) }
     {
         let is_noted = self.fail_write(platter, place, bytes);
         self.starve(!is_due || !is_noted);
@@ -152,7 +151,7 @@ impl Device {
         ensures told { ReadTold platter place buf.new result (meaning_of_device self.old) (meaning_of_device self.new) }
         ensures touches { Touches counts_of_device AnyFollows platter 0 (is_err result) self.old self.new }
         ensures starved { self.old.starved ≤ self.new.starved }
-        ensures answers { Answers platter fails (not self.new.is_frozen) result self.old.starved self.new.starved (platter_of_device self.old) (platter_of_device self.new) (platter_of_device self.old platter) (failed (platter_of_device self.old platter)) }
+        ensures answers { AnswersOf platter fails result self.old self.new (λ s. s) failed }
     {
         if fails {
             self.refuse(platter, true);
@@ -178,7 +177,7 @@ impl Device {
         ensures touches { Touches counts_of_device AnyFollows platter 1 (is_err result) self.old self.new }
         ensures written { HasWritten platter 1 (counts_of_device self.old) (counts_of_device self.new) }
         ensures starved { self.old.starved ≤ self.new.starved }
-        ensures answers { Answers platter fails (not self.new.is_frozen) result self.old.starved self.new.starved (platter_of_device self.old) (platter_of_device self.new) (written place bytes.now (platter_of_device self.old platter)) (write_failed place (length bytes.now) (platter_of_device self.old platter)) }
+        ensures answers { AnswersOf platter fails result self.old self.new (written place bytes.now) (write_failed place (length bytes.now)) }
     {
         if fails {
             self.refuse_write(platter, place, bytes, true);
@@ -201,7 +200,7 @@ impl Device {
         ensures told { SyncTold platter result (meaning_of_device self.old) (meaning_of_device self.new) }
         ensures touches { Touches counts_of_device AnyFollows platter 0 (is_err result) self.old self.new }
         ensures starved { self.old.starved ≤ self.new.starved }
-        ensures answers { Answers platter fails (not self.new.is_frozen) result self.old.starved self.new.starved (platter_of_device self.old) (platter_of_device self.new) (synced (platter_of_device self.old platter)) (failed (platter_of_device self.old platter)) }
+        ensures answers { AnswersOf platter fails result self.old self.new synced failed }
     {
         if fails {
             self.refuse(platter, true);
@@ -224,7 +223,7 @@ impl Device {
         ensures told { RestartTold platter result (meaning_of_device self.old) (meaning_of_device self.new) }
         ensures touches { Touches counts_of_device AnyFollows platter 0 (is_err result) self.old self.new }
         ensures starved { self.old.starved ≤ self.new.starved }
-        ensures answers { Answers platter fails (not self.new.is_frozen) result self.old.starved self.new.starved (platter_of_device self.old) (platter_of_device self.new) (restarted choice (platter_of_device self.old platter)) (failed (platter_of_device self.old platter)) }
+        ensures answers { AnswersOf platter fails result self.old self.new (restarted choice) failed }
     {
         if fails {
             self.refuse(platter, true);
@@ -247,7 +246,7 @@ impl Device {
         ensures told { BlankTold platter result (meaning_of_device self.old) (meaning_of_device self.new) }
         ensures touches { Touches counts_of_device AnyFollows platter 0 (is_err result) self.old self.new }
         ensures starved { self.old.starved ≤ self.new.starved }
-        ensures answers { Answers platter fails (not self.new.is_frozen) result self.old.starved self.new.starved (platter_of_device self.old) (platter_of_device self.new) (blanked (platter_of_device self.old platter)) (failed (platter_of_device self.old platter)) }
+        ensures answers { AnswersOf platter fails result self.old self.new blanked failed }
     {
         if fails {
             self.refuse(platter, true);
@@ -270,7 +269,7 @@ impl Device {
         ensures told { TakeTold buf.new result (streams_of_device self.old) (streams_of_device self.new) (meaning_of_device self.old) (meaning_of_device self.new) }
         ensures touches { TouchesScript counts_of_device AnyFollows (is_err result) self.old self.new }
         ensures starved { self.old.starved ≤ self.new.starved }
-        ensures answers { StreamAnswers fails (not self.new.is_frozen) result self.old.starved self.new.starved (platter_of_device self.old) (platter_of_device self.new) }
+        ensures answers { StreamAnswersOf fails result self.old self.new }
     {
         if fails {
             let is_noted = self.fail_take();
@@ -295,7 +294,7 @@ impl Device {
         ensures none { OnErr result ((meaning_of_device self.new).now.printed ≡ (meaning_of_device self.old).now.printed) }
         ensures touches { TouchesReport counts_of_device AnyFollows (is_err result) self.old self.new }
         ensures starved { self.old.starved ≤ self.new.starved }
-        ensures answers { StreamAnswers fails (not self.new.is_frozen) result self.old.starved self.new.starved (platter_of_device self.old) (platter_of_device self.new) }
+        ensures answers { StreamAnswersOf fails result self.old self.new }
     {
         if fails {
             let is_noted = self.fail_put();

@@ -3,7 +3,6 @@ ghost use Rattle.std.specs.List.{list_any};
 ghost use Rattle.zb_outside.specs.Counts.{Touches, TouchesScript, TouchesReport, HasWritten};
 ghost use Rattle.zb_outside.specs.Platters.{ReadTold, WriteTold, SyncTold, RestartTold, BlankTold};
 ghost use Rattle.zb_outside.specs.Streams.{TakeTold, PutTold};
-ghost use Rattle.zb_devices.specs.Answers.{Answers, StreamAnswers};
 ghost use Rattle.zb_devices.specs.Memory.{IsKept, AllEmpty};
 ghost use Rattle.zb_devices.specs.Record.{written, write_failed, failed, synced, restarted, blanked};
 
@@ -124,7 +123,7 @@ impl MemOutside {
 }
 
 impl Bay for MemOutside {
-    ghost use Rattle.zb_devices.specs.MemOutside.{meaning_of, counts_of, is_recording, platter_of, failing_of, choices_of, calls_of, restarts_of, starved_of, next_call, next_choice, is_due, MemFollows, mem_same, mem_then};
+    ghost use Rattle.zb_devices.specs.MemOutside.{meaning_of, counts_of, calls_of, restarts_of, next_call, next_choice, AnswersAs, MemFollows, mem_same, mem_then};
     ghost use Rattle.zb_devices.specs.Memory.{exact_counts, exact_streams};
 
     ghost tells = { true };
@@ -142,7 +141,7 @@ impl Bay for MemOutside {
         requires range { place + length buf.old ≤ 2 ^ 63 }
         ensures told { ReadTold platter place buf.new result (meaning_of self.old) (meaning_of self.new) }
         ensures touches { Touches counts_of MemFollows platter 0 (is_err result) self.old self.new }
-        ensures answers { Answers platter (is_due self.old) (is_recording self.new) result (starved_of self.old) (starved_of self.new) (platter_of self.old) (platter_of self.new) (platter_of self.old platter) (failed (platter_of self.old platter)) }
+        ensures answers { AnswersAs platter result self.old self.new (λ s. s) failed }
         ensures calls { calls_of self.new ≡ next_call self.old }
         ensures restarts { restarts_of self.new ≡ restarts_of self.old }
     {
@@ -156,7 +155,7 @@ impl Bay for MemOutside {
         ensures told { WriteTold platter place bytes.now result (meaning_of self.old) (meaning_of self.new) }
         ensures touches { Touches counts_of MemFollows platter 1 (is_err result) self.old self.new }
         ensures written { HasWritten platter 1 (counts_of self.old) (counts_of self.new) }
-        ensures answers { Answers platter (is_due self.old) (is_recording self.new) result (starved_of self.old) (starved_of self.new) (platter_of self.old) (platter_of self.new) (written place bytes.now (platter_of self.old platter)) (write_failed place (length bytes.now) (platter_of self.old platter)) }
+        ensures answers { AnswersAs platter result self.old self.new (written place bytes.now) (write_failed place (length bytes.now)) }
         ensures calls { calls_of self.new ≡ next_call self.old }
         ensures restarts { restarts_of self.new ≡ restarts_of self.old }
     {
@@ -168,7 +167,7 @@ impl Bay for MemOutside {
         requires platter { platter ≤ 255 }
         ensures told { SyncTold platter result (meaning_of self.old) (meaning_of self.new) }
         ensures touches { Touches counts_of MemFollows platter 0 (is_err result) self.old self.new }
-        ensures answers { Answers platter (is_due self.old) (is_recording self.new) result (starved_of self.old) (starved_of self.new) (platter_of self.old) (platter_of self.new) (synced (platter_of self.old platter)) (failed (platter_of self.old platter)) }
+        ensures answers { AnswersAs platter result self.old self.new synced failed }
         ensures calls { calls_of self.new ≡ next_call self.old }
         ensures restarts { restarts_of self.new ≡ restarts_of self.old }
     {
@@ -180,7 +179,7 @@ impl Bay for MemOutside {
         requires platter { platter ≤ 255 }
         ensures told { RestartTold platter result (meaning_of self.old) (meaning_of self.new) }
         ensures touches { Touches counts_of MemFollows platter 0 (is_err result) self.old self.new }
-        ensures answers { Answers platter (is_due self.old) (is_recording self.new) result (starved_of self.old) (starved_of self.new) (platter_of self.old) (platter_of self.new) (restarted (next_choice self.old) (platter_of self.old platter)) (failed (platter_of self.old platter)) }
+        ensures answers { AnswersAs platter result self.old self.new (restarted (next_choice self.old)) failed }
         ensures calls { calls_of self.new ≡ next_call self.old }
         ensures restarts { restarts_of self.new ≡ (if is_ok result then min (restarts_of self.old + 1) (2 ^ 64 - 1) else restarts_of self.old) }
     {
@@ -197,7 +196,7 @@ impl Bay for MemOutside {
         requires platter { platter ≤ 255 }
         ensures told { BlankTold platter result (meaning_of self.old) (meaning_of self.new) }
         ensures touches { Touches counts_of MemFollows platter 0 (is_err result) self.old self.new }
-        ensures answers { Answers platter (is_due self.old) (is_recording self.new) result (starved_of self.old) (starved_of self.new) (platter_of self.old) (platter_of self.new) (blanked (platter_of self.old platter)) (failed (platter_of self.old platter)) }
+        ensures answers { AnswersAs platter result self.old self.new blanked failed }
         ensures calls { calls_of self.new ≡ next_call self.old }
         ensures restarts { restarts_of self.new ≡ restarts_of self.old }
     {
@@ -213,14 +212,14 @@ impl Bay for MemOutside {
 }
 
 impl Outside for MemOutside {
-    ghost use Rattle.zb_devices.specs.MemOutside.{meaning_of, counts_of, is_recording, platter_of, calls_of, restarts_of, starved_of, next_call, is_due, MemFollows};
+    ghost use Rattle.zb_devices.specs.MemOutside.{meaning_of, counts_of, calls_of, restarts_of, next_call, StreamAnswersAs, MemFollows};
     ghost use Rattle.zb_devices.specs.Memory.{exact_counts, exact_streams};
 
     fn take(&mut self, buf: &mut [u8]) -> Result<usize, Failed>
         ensures bound { IfOk result (λ n. n ≤ length buf.new) }
         ensures told { TakeTold buf.new result (counts_of self.old).streams (counts_of self.new).streams (meaning_of self.old) (meaning_of self.new) }
         ensures touches { TouchesScript counts_of MemFollows (is_err result) self.old self.new }
-        ensures answers { StreamAnswers (is_due self.old) (is_recording self.new) result (starved_of self.old) (starved_of self.new) (platter_of self.old) (platter_of self.new) }
+        ensures answers { StreamAnswersAs result self.old self.new }
         ensures calls { calls_of self.new ≡ next_call self.old }
         ensures restarts { restarts_of self.new ≡ restarts_of self.old }
     {
@@ -232,7 +231,7 @@ impl Outside for MemOutside {
         ensures told { PutTold bytes.now result (counts_of self.old).streams (counts_of self.new).streams (meaning_of self.old) (meaning_of self.new) }
         ensures none { OnErr result ((meaning_of self.new).now.printed ≡ (meaning_of self.old).now.printed) }
         ensures touches { TouchesReport counts_of MemFollows (is_err result) self.old self.new }
-        ensures answers { StreamAnswers (is_due self.old) (is_recording self.new) result (starved_of self.old) (starved_of self.new) (platter_of self.old) (platter_of self.new) }
+        ensures answers { StreamAnswersAs result self.old self.new }
         ensures calls { calls_of self.new ≡ next_call self.old }
         ensures restarts { restarts_of self.new ≡ restarts_of self.old }
     {

@@ -1,5 +1,5 @@
 -- Requests about one stripe leave each other as it is.
-use Rattle.std.proofs.Common.{◌≡◌, ℕ, Bool, false, ◌&&◌, cond, eqb, Option, refl, sym, ap, ◌∙◌, inl, inr}
+use Rattle.std.proofs.Common.{◌≡◌, ℕ, Bool, false, ◌&&◌, cond, eqb, Option, refl, ap, inl, inr}
 use Rattle.std.proofs.lemmas.Bool.{ne_eqb, and_left, and_right, cond_both}
 use Rattle.zb_types.specs.declared.ids.LogId.{LogId}
 use Rattle.zb_types.specs.declared.ids.ServerId.{ServerId}

@@ -11,7 +11,7 @@ use Rattle.zb_types.specs.declared.requests.Response.TheVariants as told
 use Rattle.zb_types.specs.declared.requests.StoreFault.TheVariants as fault
 use Rattle.zb_holding.specs.Fragments.{Fragment, share_fragment, parity_fragment}
 use Rattle.zb_holding.specs.Placing.{share_of, frag_id, server_of}
-use Rattle.zb_holding.specs.Holding.{Maps, Begins, IsGoneOrReaches, StripeHolds, StripeRemains, is_away, standing, away_at, view_of}
+use Rattle.zb_holding.specs.Holding.{Maps, Begins, IsGoneOrReaches, StripeHolds, StripeRemains, standing, away_at, view_of}
 use Rattle.zb_holding.specs.Carrying.{found}
 use Rattle.zb_stripe.specs.declared.read.Got.{Got}
 use Rattle.zb_stripe.specs.declared.read.Got.TheVariants as got

@@ -23,20 +23,23 @@ all_but lists j k = if k == j then [] else lists k
 
 -- of n servers with room for f bytes in a share
 module _ (n f : ℕ) (ptr : Ptr) where
-  -- where the next range begins in the stripe, behind what is read, and where the last one ends
+  -- where the next range begins in the stripe, behind what is read
   abbrev pub next_pos : List ℕ → ℕ
   next_pos read = ptr.offset + length read
 
+  -- where the last range ends
   abbrev pub last_pos : ℕ
   last_pos = ptr.offset + ptr.len
 
-  -- the share of the next range, its place there, and its length
+  -- the share of the next range
   abbrev pub next_index : List ℕ → ℕ
   next_index read = next_pos read / f
 
+  -- its place in that share
   abbrev pub next_place : List ℕ → ℕ
   next_place read = next_pos read % f
 
+  -- its length
   abbrev pub next_len : List ℕ → ℕ
   next_len read = min (last_pos - next_pos read) (f - next_place read)
 

@@ -1,4 +1,4 @@
-use Rattle.std.proofs.Common.{◌≡◌, ℕ, zero, suc, List, ◌++◌, length, take, Option, Some, None, refl, sym, ap, ◌∙◌, subst, arith}
+use Rattle.std.proofs.Common.{◌≡◌, ℕ, zero, suc, List, ◌++◌, length, Option, Some, refl, sym, subst, arith}
 use Rattle.std.proofs.lemmas.List.{take_at, take_all}
 use Rattle.zb_holding.specs.Fragments.{Fragment, share_fragment}
 use Rattle.zb_stripe_laws.specs.ReadAtWork.{IsGoneOrLonger}

@@ -11,6 +11,7 @@ use Rattle.zb_holding.specs.Fragments.{Fragment, share_fragment, parity_fragment
 use Rattle.zb_holding.specs.Exclusive.{xor_at}
 use Rattle.zb_holding.specs.Holding.{Maps, view_of, StripeRemains, covered, is_away, standing, away_at}
 use Rattle.zb_holding.specs.Carrying.{found}
+use Rattle.zb_stripe_laws.specs.PartAtWork.{IsElsewhere}
 use Rattle.zb_stripe.specs.declared.read.Got.{Got}
 use Rattle.zb_stripe.specs.declared.read.Got.TheVariants as got
 use Rattle.zb_stripe.specs.declared.progress.Phase.{Phase}
@@ -121,6 +122,20 @@ StillGrow n ptr old new y Lengths = Unit {0}
 StillGrow n ptr old new y (Others lengths sum k) = (j : ℕ) → j < n - 1 → 0 < slice_index lengths j
     → away_at n y ptr.log ptr.stripe j ≡ false
     → IsGoneOrLonger (standing n new ptr.log ptr.stripe j) (standing n old ptr.log ptr.stripe j)
+
+-- the lengths that the parity covered, none where it isn't seen yet
+abbrev pub lengths_seen : Phase → List ℕ
+lengths_seen Direct = []
+lengths_seen Lengths = []
+lengths_seen (Others lengths sum k) = lengths
+
+-- a request that puts nothing in the place of a share that a read may still ask for: it stores or replaces a fragment of
+-- another stripe, a share of which the parity covered nothing, or the parity; or it adds to a share, deletes, or only asks
+abbrev pub LetsRead : Reading → Request → Type 0
+LetsRead r (ask.Store id bytes class) =
+    IsElsewhere id r.ptr.log r.ptr.stripe ⊎ (slice_index (lengths_seen r.phase) id.index ≡ 0)
+LetsRead r (ask.Parity id lengths bytes class) = IsElsewhere id r.ptr.log r.ptr.stripe ⊎ (id.index ≡ r.servers - 1)
+LetsRead r request = Unit {0}
 
 -- A read at work, whose stripe is committed up to `end` with the same bytes throughout: what remained of the stripe in
 -- the maps in which its range's parity was seen is of these bytes, what it has is theirs, and what it still asks for is

@@ -321,17 +321,19 @@ module _ (n f : ℕ) (ptr : Ptr) (end : ℕ) (two : 2 ≤ n) (some : 0 < f) (ins
   -- a read at work stays so over other maps and bytes
   module _ (now new : Maps) (bytes other : List ℕ) (same : take end bytes ≡ take end other) where
     stays_still : (lost : List Bool) (read : List ℕ) (phase : Phase) (w : ReadAtWork now end bytes (mk lost read phase))
-        → StillGrow n ptr now new w.y phase → StillStand n ptr new w.seen w.y phase
+        → StillGrow n ptr now new w.seen w.y phase → StillStand n ptr new w.seen w.y phase
     stays_still lost read Direct w longer = tt
     stays_still lost read Lengths w longer = tt
     stays_still lost read (Others lengths sum k) w longer = λ j l covers a.
         let q = w.fits.1 in
         let c = covers_it n f Any w.seen w.y ptr end w.then_bytes two some inside w.remained lengths w.fits.0 q.stands q.looked in
-        still_longer (standing n new ptr.log ptr.stripe j) (standing n now ptr.log ptr.stripe j) (standing n w.seen ptr.log ptr.stripe j) (get_or lengths j 0)
-        (longer j l covers a) (w.still j l covers a) (c.stored j l a)
+        elim (longer j l covers a) as (λ _. IsGoneOrSame (standing n new ptr.log ptr.stripe j) (standing n w.seen ptr.log ptr.stripe j) (get_or lengths j 0)) [
+          | inl grows ↦ still_longer (standing n new ptr.log ptr.stripe j) (standing n now ptr.log ptr.stripe j) (standing n w.seen ptr.log ptr.stripe j) (get_or lengths j 0) grows (w.still j l covers a) (c.stored j l a)
+          | inr back ↦ back
+        ]
 
     pub stays : (lost : List Bool) (read : List ℕ) (phase : Phase) (w : ReadAtWork now end bytes (mk lost read phase))
-        → StillGrow n ptr now new w.y phase → ReadAtWork new end other (mk lost read phase)
+        → StillGrow n ptr now new w.seen w.y phase → ReadAtWork new end other (mk lost read phase)
     stays lost read phase w longer = record {
       seen = w.seen;
       y = w.y;
@@ -346,12 +348,12 @@ module _ (n f : ℕ) (ptr : Ptr) (end : ℕ) (two : 2 ≤ n) (some : 0 < f) (ins
 -- a read at work stays so beside a request that lets it
 module _ (now : Maps) (asked_of : ServerId × Request) where
   let_on : (r : Reading) (phase : Phase) → r.phase ≡ phase → (y : Option ServerId) (seen : Maps) → LetsRead r asked_of.1
-      → StillStand r.servers r.ptr now seen y phase → StillGrow r.servers r.ptr now (carried now asked_of) y phase
+      → StillStand r.servers r.ptr now seen y phase → StillGrow r.servers r.ptr now (carried now asked_of) seen y phase
   let_on r Direct is y seen lets still = tt
   let_on r Lengths is y seen lets still = tt
   let_on r (Others lengths sum k) is y seen lets still = λ j l covers a.
-      carried_longer r j l (subst (λ (p : Phase). 0 < get_or (lengths_seen p) j 0) (sym is) covers) now asked_of
-      (standing r.servers seen r.ptr.log r.ptr.stripe j) (get_or lengths j 0) lets (still j l covers a)
+      inl (carried_longer r j l (subst (λ (p : Phase). 0 < get_or (lengths_seen p) j 0) (sym is) covers) now asked_of
+      (standing r.servers seen r.ptr.log r.ptr.stripe j) (get_or lengths j 0) lets (still j l covers a))
 
   pub beside_request : (r : Reading) (end : ℕ) (bytes : List ℕ) → 2 ≤ r.servers → 0 < r.fragment → r.ptr.offset + r.ptr.len ≤ end
       → LetsRead r asked_of.1 → ReadAtWork now end bytes r → ReadAtWork (carried now asked_of) end bytes r

@@ -115,13 +115,15 @@ StillStand n ptr now seen y (Others lengths sum k) = (j : ℕ) → j < n - 1 →
     → away_at n y ptr.log ptr.stripe j ≡ false
     → IsGoneOrSame (standing n now ptr.log ptr.stripe j) (standing n seen ptr.log ptr.stripe j) (slice_index lengths j)
 
--- each share that a read may still ask for, from old maps to new ones, is gone or has what it had and perhaps more
-abbrev pub StillGrow : ℕ → Ptr → Maps → Maps → Option ServerId → Phase → Type 0
-StillGrow n ptr old new y Direct = Unit {0}
-StillGrow n ptr old new y Lengths = Unit {0}
-StillGrow n ptr old new y (Others lengths sum k) = (j : ℕ) → j < n - 1 → 0 < slice_index lengths j
+-- from old maps to new ones each share that a read may still ask for is gone, or has what it had and perhaps more, or was
+-- put back as it was when the parity was seen
+abbrev pub StillGrow : ℕ → Ptr → Maps → Maps → Maps → Option ServerId → Phase → Type 0
+StillGrow n ptr old new seen y Direct = Unit {0}
+StillGrow n ptr old new seen y Lengths = Unit {0}
+StillGrow n ptr old new seen y (Others lengths sum k) = (j : ℕ) → j < n - 1 → 0 < slice_index lengths j
     → away_at n y ptr.log ptr.stripe j ≡ false
     → IsGoneOrLonger (standing n new ptr.log ptr.stripe j) (standing n old ptr.log ptr.stripe j)
+    ⊎ IsGoneOrSame (standing n new ptr.log ptr.stripe j) (standing n seen ptr.log ptr.stripe j) (slice_index lengths j)
 
 -- the lengths that the parity covered, none where it isn't seen yet
 abbrev pub lengths_seen : Phase → List ℕ

@@ -38,7 +38,7 @@ pub fn read_gives_bytes()
 {}
 
 /// A read while others write, answer by answer: it begins at work over what remains of its stripe, and stays so over maps
-/// with the same committed bytes whose shares are gone or grow, as beside any request but one that puts another fragment
+/// with the same committed bytes whose shares are gone, grow or are put back, as beside any request but one that puts another fragment
 /// in the place of a share. An answer from the maps of now leads it on, or to an end that is right. It is gone only where
 /// the fragment that is asked for isn't there: of a stripe that is held, another share than the range's own.
 pub fn read_goes_on()
@@ -50,7 +50,7 @@ pub fn read_goes_on()
         → k < n → is_lost (start n f ptr out) k ≡ is_away out (server_at (start n f ptr out) k) }
     ensures stays { (now new : Maps) (end : ℕ) (bytes other : List ℕ) (r : Reading) (work : ReadAtWork now end bytes r)
         → 2 ≤ r.servers → 0 < r.fragment → r.ptr.offset + r.ptr.len ≤ end → take end bytes ≡ take end other
-        → StillGrow r.servers r.ptr now new work.y r.phase
+        → StillGrow r.servers r.ptr now new work.seen work.y r.phase
         → ReadAtWork new end other r }
     ensures beside { (now : Maps) (end : ℕ) (bytes : List ℕ) (r : Reading) (asked : ServerId × Request)
         → 2 ≤ r.servers → 0 < r.fragment → r.ptr.offset + r.ptr.len ≤ end

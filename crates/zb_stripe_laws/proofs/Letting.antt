@@ -1,8 +1,7 @@
 -- Requests beside which a read goes on.
-use Rattle.std.proofs.Common.{◌≡◌, ◌≢◌, ◌⊎◌, ℕ, ◌-◌, ◌<◌, ◌≤◌, Bool, true, false, ◌&&◌, cond, eqb, List, ◌++◌, length, take, get_or, Option, Some, None, refl, sym, ap, ◌∙◌, subst, inl, inr, arith}
+use Rattle.std.proofs.Common.{◌≡◌, ◌⊎◌, ℕ, ◌-◌, ◌<◌, true, ◌&&◌, eqb, List, ◌++◌, length, take, get_or, Option, Some, None, refl, sym, ap, ◌∙◌, inl, inr, arith}
 use Rattle.std.proofs.lemmas.Bool.{cond_both, and_parts, false≢true}
 use Rattle.std.proofs.lemmas.List.{take_at, take_all}
-use Rattle.zb_types.specs.declared.ids.LogId.{LogId}
 use Rattle.zb_types.specs.declared.ids.ServerId.{ServerId}
 use Rattle.zb_types.specs.declared.ids.FragId.{FragId}
 use Rattle.zb_types.specs.declared.requests.Request.{Request}
@@ -12,7 +11,6 @@ use Rattle.zb_holding.specs.Placing.{frag_id, server_of}
 use Rattle.zb_holding.specs.Holding.{Maps, standing}
 use Rattle.zb_holding.specs.Carrying.{stands_after, same_frag, is_about, carried}
 use Rattle.zb_holding.proofs.Keys.{same_frag-is}
-use Rattle.zb_stripe.specs.declared.progress.Phase.TheVariants.{Direct, Lengths, Others}
 use Rattle.zb_stripe.specs.Reading.{Reading}
 use Rattle.zb_stripe_laws.specs.PartAtWork.{IsElsewhere}
 use Rattle.zb_stripe_laws.specs.ReadAtWork.{IsGoneOrSame, IsGoneOrLonger, LetsRead, lengths_seen}

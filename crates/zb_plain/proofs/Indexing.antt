@@ -17,7 +17,7 @@ use Rattle.zb_stripe.specs.declared.flush.Flush.{Flush}
 use Rattle.zb_stripe.specs.Writing.{grow, new_bytes, plan_requests}
 use Rattle.zb_plain.specs.Standing.{Entries, maps_of, stands_in}
 use Rattle.zb_plain.specs.Indexed.{FitsIndex, AllFitIndex}
-use Rattle.zb_plain.proofs.Naming.{same_frag-is}
+use Rattle.zb_holding.proofs.Keys.{same_frag-is}
 use Rattle.zb_plain.proofs.Planned.{Requests, each_request, each_first}
 
 -- a request that puts a fragment to its index

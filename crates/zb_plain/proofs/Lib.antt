@@ -1,5 +1,4 @@
 pub mod Naming
-pub mod Listing
 pub mod Serving
 pub mod Planned
 pub mod Asking
@@ -8,3 +7,4 @@ pub mod Indexing
 pub mod ReadAnswers
 pub mod Deliveries
 pub mod ReadsOn
+pub mod Ruling

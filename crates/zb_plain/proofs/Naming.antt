@@ -12,36 +12,9 @@ use Rattle.zb_types.specs.declared.requests.Request.{Request}
 use Rattle.zb_types.specs.Order.{frag_cmp}
 use Rattle.zb_holding.specs.Fragments.{Fragment}
 use Rattle.zb_holding.specs.Carrying.{same_frag, is_about, stands_after}
+use Rattle.zb_holding.proofs.Keys.{same_frag-cmp, is_at-same_frag, same_frag-is}
 use Rattle.zb_plain.specs.declared.kept.Kept.{Kept}
 use Rattle.zb_plain.specs.Standing.{Entries, fragment_of, stands_in, IsPut, IsAfter}
-
-nat_is_eq : (x y : ℕ) → eqb x y ≡ is_eq (nat_cmp x y)
-nat_is_eq x y = grind (arith, nat_tests)
-
-and_groups : (p q r : Bool) → (p && (q && r)) ≡ ((p && q) && r)
-and_groups true q r = refl
-and_groups false q r = refl
-
--- names that compare alike are one name
-same_frag-cmp : (a b : FragId) → is_at (frag_cmp a) b ≡ same_frag a b
-same_frag-cmp a b =
-    sym (tied_then (nat_cmp a.log.0 b.log.0) (ordering_then (nat_cmp a.stripe b.stripe) (nat_cmp a.index b.index)))
-    ∙ ap (λ t. is_eq (nat_cmp a.log.0 b.log.0) && t) (sym (tied_then (nat_cmp a.stripe b.stripe) (nat_cmp a.index b.index)))
-    ∙ (λ i. sym (nat_is_eq a.log.0 b.log.0) i && (sym (nat_is_eq a.stripe b.stripe) i && sym (nat_is_eq a.index b.index) i))
-    ∙ and_groups (eqb a.log.0 b.log.0) (eqb a.stripe b.stripe) (eqb a.index b.index)
-
-pub is_at-same_frag : (a : FragId) → is_at (frag_cmp a) ≡ same_frag a
-is_at-same_frag a = λ i q. same_frag-cmp a q i
-
--- names that are the same are equal
-pub same_frag-is : (a b : FragId) → same_frag a b ≡ true → a ≡ b
-same_frag-is a b same =
-    let parts = and_parts (eqb a.log.0 b.log.0 && eqb a.stripe b.stripe) (eqb a.index b.index) same in
-    let firsts = and_parts (eqb a.log.0 b.log.0) (eqb a.stripe b.stripe) parts.0 in
-    let log = eqb-true a.log.0 b.log.0 firsts.0 in
-    let stripe = eqb-true a.stripe b.stripe firsts.1 in
-    let index = eqb-true a.index b.index parts.1 in
-    (λ i. record { log = record { 0 = log i }; stripe = stripe i; index = index i })
 
 map_cond : (b : Bool) (w o : Option Kept) → option_map fragment_of (cond b w o) ≡ cond b (option_map fragment_of w) (option_map fragment_of o)
 map_cond true w o = refl

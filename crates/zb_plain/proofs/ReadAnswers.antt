@@ -24,6 +24,7 @@ use Rattle.zb_plain.specs.Answering.{answer_of, MayAsk}
 use Rattle.zb_plain.specs.Indexed.{FitsIndex, AllFitIndex}
 use Rattle.zb_plain.specs.Leading.{LeadOn}
 use Rattle.zb_plain.proofs.Asking.{at_server}
+use Rattle.zb_plain.proofs.Ruling.{retrieve_found}
 
 -- nothing is asked, or a fragment of the server that it is placed on
 abbrev Retrieves : ℕ → Option (ServerId × Request) → Type 0
@@ -64,7 +65,8 @@ answers_one : (n : ℕ) (servers : List Entries) (one : ServerId × Request) →
 answers_one n servers (server, ask.Store id bytes class) fit is = absurd is
 answers_one n servers (server, ask.Append id place bytes) fit is = absurd is
 answers_one n servers (server, ask.Parity id lengths bytes class) fit is = absurd is
-answers_one n servers (server, ask.Retrieve id place len) fit is = found_answers n id place len (maps_of servers server id) (fit server id)
+answers_one n servers (server, ask.Retrieve id place len) fit is =
+    subst (AnswersRetrieve n id len) (sym (retrieve_found (entries_of servers server) id place len)) (found_answers n id place len (maps_of servers server id) (fit server id))
 answers_one n servers (server, ask.Delete id) fit is = absurd is
 answers_one n servers (server, ask.Identify after) fit is = absurd is
 answers_one n servers (server, ask.Fence generation) fit is = absurd is
@@ -80,7 +82,7 @@ from_one : (n : ℕ) (servers : List Entries) (x z : Option ServerId) (one : Ser
 from_one n servers x z (server, ask.Store id bytes class) looked is = absurd is
 from_one n servers x z (server, ask.Append id place bytes) looked is = absurd is
 from_one n servers x z (server, ask.Parity id lengths bytes class) looked is = absurd is
-from_one n servers x z (server, ask.Retrieve id place len) looked is = inr (looked, refl)
+from_one n servers x z (server, ask.Retrieve id place len) looked is = inr (looked, retrieve_found (entries_of servers server) id place len)
 from_one n servers x z (server, ask.Delete id) looked is = absurd is
 from_one n servers x z (server, ask.Identify after) looked is = absurd is
 from_one n servers x z (server, ask.Fence generation) looked is = absurd is

@@ -17,6 +17,7 @@ use Rattle.zb_holding.specs.Fragments.{Fragment, share_fragment, parity_fragment
 use Rattle.zb_holding.specs.Placing.{share_length, frag_id, server_of}
 use Rattle.zb_holding.specs.Holding.{Maps, is_away, standing, away_at, view_of}
 use Rattle.zb_holding.specs.Carrying.{carried, carried_all}
+use Rattle.zb_holding.specs.Rules.{stand_at}
 use Rattle.zb_stripe.specs.declared.flush.Part.{Part}
 use Rattle.zb_stripe.specs.declared.flush.Flush.{Flush}
 use Rattle.zb_stripe.specs.Writing.{grow, unless_out, new_bytes, share_request, share_requests, lengths_of, parity_bytes, parity_request, part_requests, plan_requests}
@@ -25,7 +26,8 @@ use Rattle.zb_stripe_laws.proofs.Elsewhere.{Silent, silent_first}
 use Rattle.zb_stripe_laws.proofs.Growing.{about_grow}
 use Rattle.zb_stripe_laws.proofs.Working.{parts_at_work, others_elsewhere}
 use Rattle.zb_plain.specs.Standing.{Entries, stands_in, entries_of, maps_of}
-use Rattle.zb_plain.specs.Answering.{stand_at, answer_to_store, answer_to_append, answer_of}
+use Rattle.zb_plain.specs.Answering.{unless_refused, answer_of}
+use Rattle.zb_plain.proofs.Ruling.{store_free, append_some, parity_done}
 use Rattle.zb_plain.proofs.Planned.{Requests, get-front, get-behind, of_part}
 
 -- ---- at most one request, and this one
@@ -48,23 +50,25 @@ only_unless_out n out id request =
 
 -- ---- what is answered to a share that grows
 
-free_is_done : (stands : Option Fragment) → HasBytes stands 0 → answer_to_store stands ≡ told.Done
-free_is_done None has = refl
-free_is_done (Some (share_fragment bytes)) has = absurd (omega (arith, has.0))
-free_is_done (Some (parity_fragment lengths bytes)) has = absurd has
+has_none : (stands : Option Fragment) → HasBytes stands 0 → stands ≡ None
+has_none None has = refl
+has_none (Some (share_fragment bytes)) has = absurd (omega (arith, has.0))
+has_none (Some (parity_fragment lengths bytes)) has = absurd has
 
-end_is_done : (stands : Option Fragment) (had : ℕ) (bytes : List ℕ) → HasBytes stands (suc had) → answer_to_append stands (suc had) bytes ≡ told.Done
-end_is_done None had bytes has = absurd (omega (arith, has))
-end_is_done (Some (share_fragment share)) had bytes has =
-    ap (λ b. cond b told.Done (told.Refused (fault.Offset (length share))))
+end_is_done : (entries : Entries) (id : FragId) (stands : Option Fragment) (had : ℕ) (bytes : List ℕ) → stands_in entries id ≡ stands → HasBytes stands (suc had)
+    → answer_of entries (ask.Append id (suc had) bytes) ≡ told.Done
+end_is_done entries id None had bytes is has = absurd (omega (arith, has))
+end_is_done entries id (Some (share_fragment share)) had bytes is has =
+    append_some entries id (suc had) bytes (share_fragment share) is
+    ∙ ap (λ b. unless_refused (cond b None (Some (fault.Offset (length share)))) told.Done)
     (or_right (stand_at share (suc had) bytes) (eqb (suc had) (length share)) (eq-eqb (suc had) (length share) (sym has.1)))
-end_is_done (Some (parity_fragment lengths parity)) had bytes has = absurd has
+end_is_done entries id (Some (parity_fragment lengths parity)) had bytes is has = absurd has
 
 grow_is_done : (entries : Entries) (id : FragId) (class : Class) (had : ℕ) (bytes : List ℕ) → HasBytes (stands_in entries id) had → answer_of entries (grow id class had bytes) ≡ told.Done
-grow_is_done entries id class zero bytes has = free_is_done (stands_in entries id) has
+grow_is_done entries id class zero bytes has = store_free entries id bytes class (has_none (stands_in entries id) has)
 grow_is_done entries id class (suc had) bytes has =
     ap (λ b. answer_of entries (cond b (ask.Store id bytes class) (ask.Append id (suc had) bytes))) (ne_eqb (suc had) 0 (λ e. omega (arith, e)))
-    ∙ end_is_done (stands_in entries id) had bytes has
+    ∙ end_is_done entries id (stands_in entries id) had bytes refl has
 
 module _ (n f : ℕ) (out : Option ServerId) (class : Class) (log : LogId) (part : Part) where
   frag : ℕ → FragId
@@ -159,7 +163,7 @@ module _ (n f : ℕ) (out : Option ServerId) (class : Class) (log : LogId) (part
             let id = frag_id log part.stripe (n - 1) in
             let only = only_unless_out n out id (ask.Parity id (lengths_of n f part) (parity_bytes n f part) class) (i - length (shares (n - 1))) r
             (sym (get-behind (shares (n - 1)) parity i (i - length (shares (n - 1))) (omega (arith, past))) ∙ e) in
-            subst Done (sym only.1) refl
+            subst Done (sym only.1) (parity_done (entries_of servers (server_of n id)) id (lengths_of n f part) (parity_bytes n f part) class)
       ]
 
 one_of_all : (P : Part → Type 0) (before after : List Part) (part : Part) → All P (before ++ part ∷ after) → P part

@@ -1,5 +1,5 @@
 ghost use Rattle.std.specs.Prelude.{◌≡◌, ◌+◌, ◌^◌, ◌<◌, ◌++◌, IfOk, OnOk, OnErr, length, take, drop, replicate};
-ghost use Rattle.zb_plain.specs.Answering.{stand_at};
+ghost use Rattle.zb_holding.specs.Rules.{stand_at};
 
 use std::alloc::Global;
 use std::marker::Model;

@@ -3,7 +3,8 @@ ghost use Rattle.zb_types.specs.declared.ids.FragId.{FragId};
 ghost use Rattle.zb_types.specs.declared.requests.Request.TheVariants as ask;
 ghost use Rattle.zb_holding.specs.Carrying.{found, stands_after};
 ghost use Rattle.zb_plain.specs.Standing.{fragment_of};
-ghost use Rattle.zb_plain.specs.Answering.{answer_to_append, is_done};
+ghost use Rattle.zb_holding.specs.Rules.{refusal_to_append, is_done};
+ghost use Rattle.zb_plain.specs.Answering.{unless_refused};
 
 use crate::body::Body;
 use std::alloc::Global;
@@ -21,7 +22,7 @@ pub enum Kept {
 fn append_to_share(share: &mut Body, place: u32, bytes: &[u8]) -> Mem<Response>
     requires { place + length bytes.now < 2 ^ 32 }
     ensures answer { IfOk result
-        (λ answer. answer ≡ answer_to_append (Some (fragment_of (Kept.Share share.old))) place bytes.now) }
+        (λ answer. answer ≡ unless_refused (refusal_to_append (fragment_of (Kept.Share share.old)) place bytes.now) Response.Done) }
     ensures carried { OnOk result ((id : FragId) → Some (fragment_of (Kept.Share share.new))
         ≡ stands_after (ask.Append id place bytes.now) (Some (fragment_of (Kept.Share share.old)))) }
     ensures same { IfOk result (λ answer. is_done answer ≡ false → share.new ≡ share.old) }
@@ -40,7 +41,7 @@ fn append_to_share(share: &mut Body, place: u32, bytes: &[u8]) -> Mem<Response>
 /// A parity isn't extended: it only has bytes that stand there already.
 fn append_to_parity(parity: &Body, place: u32, bytes: &[u8]) -> Response
     ensures { (lengths : List ℕ)
-        → result ≡ answer_to_append (Some (fragment_of (Kept.Parity lengths parity.now))) place bytes.now }
+        → result ≡ unless_refused (refusal_to_append (fragment_of (Kept.Parity lengths parity.now)) place bytes.now) Response.Done }
 {
     if parity.stand_at(place, bytes) {
         Response::Done
@@ -73,7 +74,7 @@ impl Kept {
     pub(crate) fn append(&mut self, place: u32, bytes: &[u8]) -> Mem<Response>
         requires { place + length bytes.now < 2 ^ 32 }
         ensures answer { IfOk result
-            (λ answer. answer ≡ answer_to_append (Some (fragment_of self.old)) place bytes.now) }
+            (λ answer. answer ≡ unless_refused (refusal_to_append (fragment_of self.old) place bytes.now) Response.Done) }
         ensures carried { OnOk result ((id : FragId) → Some (fragment_of self.new)
             ≡ stands_after (ask.Append id place bytes.now) (Some (fragment_of self.old))) }
         ensures same { IfOk result (λ answer. is_done answer ≡ false → self.new ≡ self.old) }

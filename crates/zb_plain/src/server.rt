@@ -3,38 +3,17 @@ ghost use Rattle.zb_types.specs.declared.nodes.Class.{Class};
 ghost use Rattle.zb_types.specs.declared.requests.Request.TheVariants as ask;
 ghost use Rattle.zb_holding.specs.Carrying.{found};
 ghost use Rattle.zb_plain.specs.Standing.{stands_in, IsAfter, IsInOrder};
-ghost use Rattle.zb_plain.specs.Answering.{
-  answer_to_store,
-  answer_to_append,
-  answer_to_delete,
-  start_above,
-  names_above,
-  most_names,
-  answer_of,
-  is_done,
-  EndsInRange,
-};
+ghost use Rattle.zb_holding.specs.Listing.{names_above, most_names};
+ghost use Rattle.zb_holding.specs.Rules.{is_done};
+ghost use Rattle.zb_plain.specs.Answering.{answer_of, EndsInRange};
 
 use crate::body::Body;
 use crate::kept::Kept;
 use std::alloc::Global;
 use std::collections::BTreeMap;
 use std::marker::Model;
-use std::ops::Bound;
-use zb_types::{ByteList, FragId, FragList, LenList, Mem, Request, Response, StoreFault};
-
-/// The most names of one answer.
-const MOST_NAMES: usize = 256;
-
-/// Where the names above another begin.
-fn start_above(after: Option<FragId>) -> Bound<FragId>
-    ensures { result ≡ start_above after }
-{
-    match after {
-        None => Bound::Unbounded,
-        Some(id) => Bound::Excluded(id),
-    }
-}
+use zb_holding::names_above;
+use zb_types::{FragId, FragList, LenList, Mem, Request, Response, StoreFault};
 
 /// One server: fragments under their names.
 #[derive(Drop)]
@@ -64,7 +43,8 @@ impl PlainServer {
     /// Stores a share under a name that is free.
     fn store(&mut self, alloc: Global, id: FragId, bytes: &[u8]) -> Mem<Response>
         requires { length bytes.now < 2 ^ 32 }
-        ensures answer { IfOk result (λ answer. answer ≡ answer_to_store (stands_in self.old id)) }
+        ensures answer { IfOk result
+            (λ answer. (class : Class) → answer ≡ answer_of self.old (ask.Store id bytes.now class)) }
         ensures carried { OnOk result
             ((class : Class) → IsAfter self.old self.new (ask.Store id bytes.now class)) }
         ensures same { IfOk result (λ answer. is_done answer ≡ false → self.new ≡ self.old) }
@@ -82,7 +62,7 @@ impl PlainServer {
     fn append(&mut self, id: FragId, place: u32, bytes: &[u8]) -> Mem<Response>
         requires { place + length bytes.now < 2 ^ 32 }
         ensures answer { IfOk result
-            (λ answer. answer ≡ answer_to_append (stands_in self.old id) place bytes.now) }
+            (λ answer. answer ≡ answer_of self.old (ask.Append id place bytes.now)) }
         ensures carried { OnOk result (IsAfter self.old self.new (ask.Append id place bytes.now)) }
         ensures same { IfOk result (λ answer. is_done answer ≡ false → self.new ≡ self.old) }
         ensures err { OnErr result (self.new ≡ self.old) }
@@ -120,7 +100,7 @@ impl PlainServer {
 
     /// Removes what stands under a name.
     fn delete(&mut self, id: FragId) -> Response
-        ensures answer { result ≡ answer_to_delete (stands_in self.old id) }
+        ensures answer { result ≡ answer_of self.old (ask.Delete id) }
         ensures carried { IsAfter self.old self.new (ask.Delete id) }
         ensures same { is_done result ≡ false → self.new ≡ self.old }
     {
@@ -134,14 +114,7 @@ impl PlainServer {
     fn names_above(&self, alloc: Global, after: Option<FragId>) -> Mem<FragList>
         ensures { IfOk result (λ names. names ≡ take most_names (names_above after self.now)) }
     {
-        let mut names = Vec::new(alloc);
-        for (id, _) in self.kept.range((start_above(after), Bound::Unbounded)) {
-            if names.len() == MOST_NAMES {
-                return Ok(FragList::of(names));
-            }
-            names.push(*id)?;
-        }
-        Ok(FragList::of(names))
+        names_above(alloc, &self.kept, after)
     }
 
     /// Carries out a request. Where memory runs out nothing has changed.

@@ -1,7 +1,8 @@
 ghost use Rattle.std.specs.Prelude.{◌≡◌, List, [], false, replicate, IfOk, OnOk, OnErr, length};
 ghost use Rattle.zb_holding.specs.Carrying.{carried};
 ghost use Rattle.zb_plain.specs.Standing.{entries_of, maps_of, IsInOrder};
-ghost use Rattle.zb_plain.specs.Answering.{answer_of, is_done, MayAsk};
+ghost use Rattle.zb_holding.specs.Rules.{is_done, IsAnswer};
+ghost use Rattle.zb_plain.specs.Answering.{holdings_of, answer_of, MayAsk};
 
 use crate::server::PlainServer;
 use std::alloc::Global;
@@ -43,7 +44,8 @@ impl PlainServers {
     pub fn serve(&mut self, alloc: Global, server: ServerId, request: &Request) -> Mem<Response>
         requires { MayAsk (length self.old) (server, request.now) }
 
-        // The answer is what the rules say for what that server keeps.
+        // The answer is by the rules of a server for what that server keeps.
+        ensures rules { IfOk result (IsAnswer (holdings_of (entries_of self.old server)) 0 request.now) }
         ensures answer { IfOk result (λ answer. answer ≡ answer_of (entries_of self.old server) request.now) }
 
         // That server has carried the request out, and each other keeps what it kept.

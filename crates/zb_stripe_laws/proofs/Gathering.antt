@@ -21,7 +21,7 @@ use Rattle.zb_holding.specs.Holding.{Maps, share_bytes, covered, ParityHolds, St
 use Rattle.zb_holding.specs.Carrying.{found}
 use Rattle.zb_holding.proofs.Exclusives.{xor_more, without, xor_without, length-xored, get_or-xored}
 use Rattle.zb_stripe_laws.proofs.Away.{away_once}
-use Rattle.zb_stripe_laws.proofs.Remaining.{held_remains}
+use Rattle.zb_stripe_laws.proofs.Left.{held_remains}
 use Rattle.zb_stripe.specs.declared.read.Got.{Got}
 use Rattle.zb_stripe.specs.declared.read.Got.TheVariants as got
 use Rattle.zb_stripe.specs.declared.progress.Phase.{Phase}

@@ -1,6 +1,8 @@
 -- Requests that leave no share empty.
-use Rattle.std.proofs.Common.{ℕ, zero, suc, ◌-◌, ◌<◌, ◌&&◌, eqb, List, [], ◌∷◌, ◌++◌, length, take, Option, Some, None, arith}
+use Rattle.std.proofs.Common.{◌≡◌, ℕ, zero, suc, ◌-◌, ◌<◌, ◌&&◌, eqb, List, [], ◌∷◌, ◌++◌, length, take, Option, Some, None, subst, arith}
+use Rattle.std.specs.Prelude.{slice_get}
 use Rattle.std.specs.List.{flat_map}
+use Rattle.std.proofs.lemmas.Option.{none-some, same_Some}
 use Rattle.std.proofs.lemmas.Bool.{cond_both, eqb-false}
 use Rattle.std.proofs.lemmas.List.{length-append}
 use Rattle.zb_types.specs.declared.ids.LogId.{LogId}
@@ -16,13 +18,9 @@ use Rattle.zb_holding.specs.Carrying.{stands_after, is_about, carried, carried_a
 use Rattle.zb_stripe.specs.declared.flush.Part.{Part}
 use Rattle.zb_stripe.specs.Writing.{grow, unless_out, new_bytes, share_request, share_requests, lengths_of, parity_bytes, parity_request, part_requests}
 use Rattle.zb_stripe_laws.specs.PartAtWork.{IsNotEmpty, HasNoEmptyShare}
+use Rattle.zb_stripe_laws.specs.PlanAtWork.{StoresBytes}
 
--- a store has bytes
-abbrev Adds : Request → Type 0
-Adds (ask.Store id bytes class) = 0 < length bytes
-Adds request = Unit {0}
-
-kept : (r : Request) (o : Option Fragment) → Adds r → IsNotEmpty o → IsNotEmpty (stands_after r o)
+kept : (r : Request) (o : Option Fragment) → StoresBytes r → IsNotEmpty o → IsNotEmpty (stands_after r o)
 kept (ask.Store id bytes class) None a s = a
 kept (ask.Store id bytes class) (Some (share_fragment b)) a s = s
 kept (ask.Store id bytes class) (Some (parity_fragment l b)) a s = tt
@@ -38,7 +36,7 @@ kept (ask.Fence generation) o a s = s
 
 abbrev AllAdd : List (ServerId × Request) → Type 0
 AllAdd [] = Unit {0}
-AllAdd (r ∷ rs) = Adds r.1 × AllAdd rs
+AllAdd (r ∷ rs) = StoresBytes r.1 × AllAdd rs
 
 add_first : (i : ℕ) (rs : List (ServerId × Request)) → AllAdd rs → AllAdd (take i rs)
 add_first zero rs a = tt
@@ -49,17 +47,27 @@ add_both : (xs ys : List (ServerId × Request)) → AllAdd xs → AllAdd ys → 
 add_both [] ys a b = b
 add_both (x ∷ xs) ys a b = (a.0, add_both xs ys a.1 b)
 
+-- one request leaves no share empty
+pub kept_by : (maps : Maps) (r : ServerId × Request) → StoresBytes r.1 → HasNoEmptyShare maps → HasNoEmptyShare (carried maps r)
+kept_by maps r a s server id =
+    cond_both (eqb r.0.0 server.0 && is_about r.1 id) (stands_after r.1 (maps server id)) (maps server id) IsNotEmpty
+    (λ _. kept r.1 (maps server id) a (s server id)) (λ _. s server id)
+
 all_kept : (rs : List (ServerId × Request)) (maps : Maps) → AllAdd rs → HasNoEmptyShare maps → HasNoEmptyShare (carried_all maps rs)
 all_kept [] maps a s = s
-all_kept (r ∷ rs) maps a s = all_kept rs (carried maps r) a.1 (λ server id.
-    cond_both (eqb r.0.0 server.0 && is_about r.1 id) (stands_after r.1 (maps server id)) (maps server id) IsNotEmpty
-    (λ _. kept r.1 (maps server id) a.0 (s server id)) (λ _. s server id))
+all_kept (r ∷ rs) maps a s = all_kept rs (carried maps r) a.1 (kept_by maps r a.0 s)
 
-one_adds : (n : ℕ) (out : Option ServerId) (id : FragId) (request : Request) → Adds request → AllAdd (unless_out n out id request)
+-- each of some requests stores bytes
+adds_at : (rs : List (ServerId × Request)) (i : ℕ) (r : ServerId × Request) → AllAdd rs → slice_get rs i ≡ Some r → StoresBytes r.1
+adds_at [] i r a e = absurd (none-some r e)
+adds_at (q ∷ qs) zero r a e = subst (λ (z : ServerId × Request). StoresBytes z.1) (same_Some q r e) a.0
+adds_at (q ∷ qs) (suc i) r a e = adds_at qs i r a.1 e
+
+one_adds : (n : ℕ) (out : Option ServerId) (id : FragId) (request : Request) → StoresBytes request → AllAdd (unless_out n out id request)
 one_adds n out id request a = cond_both (is_away out (server_of n id)) [] ((server_of n id, request) ∷ []) AllAdd (λ _. tt) (λ _. (a, tt))
 
-grow_adds : (id : FragId) (class : Class) (had : ℕ) (bytes : List ℕ) → 0 < length bytes → Adds (grow id class had bytes)
-grow_adds id class had bytes some = cond_both (eqb had 0) (ask.Store id bytes class) (ask.Append id had bytes) Adds (λ _. some) (λ _. tt)
+grow_adds : (id : FragId) (class : Class) (had : ℕ) (bytes : List ℕ) → 0 < length bytes → StoresBytes (grow id class had bytes)
+grow_adds id class had bytes some = cond_both (eqb had 0) (ask.Store id bytes class) (ask.Append id had bytes) StoresBytes (λ _. some) (λ _. tt)
 
 module _ (n f : ℕ) (out : Option ServerId) (class : Class) (log : LogId) where
   share_adds : (part : Part) (k : ℕ) → AllAdd (share_request n f out class log part k)
@@ -88,3 +96,7 @@ module _ (n f : ℕ) (out : Option ServerId) (class : Class) (log : LogId) where
   none_empty maps parts i s =
       let rs = flat_map (part_requests n f out class log) parts in
       all_kept (take i rs) maps (add_first i rs (parts_add parts)) s
+
+  -- a plan's requests store bytes
+  pub plan_stores : (parts : List Part) (i : ℕ) (r : ServerId × Request) → slice_get (flat_map (part_requests n f out class log) parts) i ≡ Some r → StoresBytes r.1
+  plan_stores parts i r e = adds_at (flat_map (part_requests n f out class log) parts) i r (parts_add parts) e

@@ -22,7 +22,7 @@ use Rattle.zb_stripe_laws.specs.ReadAtWork.{IsGoneOrSame, IsGoneOrLonger, StillS
 use Rattle.zb_stripe_laws.specs.ReadAtWork as work
 use Rattle.zb_holding.proofs.Placings.{turn_once}
 use Rattle.zb_stripe_laws.proofs.Gathering.{Good, LacksIt, step, covers_it, direct_is_there, parity_is_there}
-use Rattle.zb_stripe_laws.proofs.Remaining.{held_remains}
+use Rattle.zb_stripe_laws.proofs.Left.{held_remains}
 
 -- a range within the committed bytes is the same in lists that agree on these
 same_range : (end o k : ℕ) (one other : List ℕ) → o + k ≤ end → take end one ≡ take end other → take k (drop o one) ≡ take k (drop o other)

@@ -1,15 +1,15 @@
 -- A share that is rebuilt.
 use Rattle.std.proofs.Common.{◌≡◌, ◌≢◌, ℕ, zero, suc, ◌+◌, ◌-◌, ◌<◌, ◌≤◌, Bool, false, List, [], ◌∷◌, ◌++◌, length, take, map, get_or, Option, Some, None, bit_xor, refl, sym, ap, ◌∙◌, subst, arith}
 use Rattle.std.specs.List.{range_with_len}
-use Rattle.std.proofs.lemmas.List.{length-take-le, take-take, ext_get_or}
+use Rattle.std.proofs.lemmas.List.{length-take-le, take-take, ext_get_or, length-map, get_or-map}
 use Rattle.std.proofs.lemmas.List.FromFn.{length-map-range_with_len, get_or-map-range_with_len}
 use Rattle.zb_holding.specs.Fragments.{Fragment, share_fragment, parity_fragment}
-use Rattle.zb_holding.specs.Placing.{share_of}
-use Rattle.zb_holding.specs.Exclusive.{xor_at, list_at}
+use Rattle.zb_holding.specs.Placing.{share_of, share_length}
+use Rattle.zb_holding.specs.Exclusive.{xor_at, list_at, greatest, IsXorOf}
 use Rattle.zb_holding.specs.Holding.{share_bytes, Begins, covered, CoversShares, ParityHolds, FragmentsHold}
 use Rattle.zb_holding.proofs.Exclusives.{xor_same, xor_all, xor_others}
 use Rattle.zb_parity.specs.Rebuilding.{Rebuilds}
-use Rattle.zb_stripe_laws.specs.Restoring.{cut_to, others_of}
+use Rattle.zb_stripe_laws.specs.Restoring.{cut_to, others_of, end_lengths, end_parity}
 
 -- lists that are one at each number of a range
 map_same : (g h : ℕ → List ℕ) (a k : ℕ) → ((i : ℕ) → a ≤ i → i < a + k → g i ≡ h i) → map g (range_with_len a k) ≡ map h (range_with_len a k)
@@ -82,3 +82,50 @@ module _ (m f : ℕ) (stands : ℕ → Option Fragment) (away : ℕ → Bool) (e
       ∙ ap (λ (z : ℕ). bit_xor z (xor_all (others_of (cut_to stands lengths) m j) y)) (covers.exclusive y ∙ sym (xor_range (covered f bytes lengths) m y) ∙ ap (λ (xs : List (List ℕ)). xor_all xs y) all_same)
       ∙ ap (λ (xs : List (List ℕ)). bit_xor (xor_all (Before ++ covered f bytes lengths j ∷ After) y) (xor_all xs y)) others_same
       ∙ xor_others Before After (covered f bytes lengths j) y)
+
+-- the parity that is made of the shares, each cut at the committed end
+module _ (m f : ℕ) (stands : ℕ → Option Fragment) (away : ℕ → Bool) (end : ℕ) (bytes : List ℕ)
+    (h : FragmentsHold m f stands away end bytes) (others : (k : ℕ) → k ≢ m → away k ≡ false) where
+  abbrev Ends : List ℕ
+  Ends = end_lengths m f end
+
+  abbrev Cut : ℕ → List ℕ
+  Cut k = take (get_or Ends k 0) (share_of f bytes k)
+
+  end_at : (k : ℕ) → k < m → get_or Ends k 0 ≡ share_length f end k
+  end_at k l = get_or-map-range_with_len (share_length f end) 0 m k k 0 l (omega arith)
+
+  share_cut : (k : ℕ) → k < m → cut_to stands Ends k ≡ Cut k
+  share_cut k l =
+      let s = h.shares k l (others k (λ e. omega arith)) in
+      let reach = s.reaches in
+      cut_covers (stands k) (share_of f bytes k) (get_or Ends k 0) s.begins (omega (arith, end_at k l))
+
+  cut_length : (k : ℕ) → k < m → length (cut_to stands Ends k) ≡ get_or Ends k 0
+  cut_length k l =
+      let reach = (h.shares k l (others k (λ e. omega arith))).reaches in
+      length-take-le (get_or Ends k 0) (share_bytes (stands k)) (omega (arith, end_at k l))
+
+  abbrev Shares : List (List ℕ)
+  Shares = map (cut_to stands Ends) (range_with_len 0 m)
+
+  lengths_are : map length Shares ≡ Ends
+  lengths_are =
+      let count = length-map-range_with_len (cut_to stands Ends) 0 m in
+      let ends = length-map-range_with_len (share_length f end) 0 m in
+      ext_get_or 0 (map length Shares) Ends (length-map Shares length ∙ count ∙ sym ends) (λ k l.
+      let low : k < m = omega (arith, l, length-map Shares length, count) in
+      get_or-map length Shares k [] 0 (omega (arith, count))
+      ∙ ap length (get_or-map-range_with_len (cut_to stands Ends) 0 m k k [] low (omega arith)) ∙ cut_length k low)
+
+  pub parity_rebuilt : (rebuilt : List ℕ) (shares : List (List ℕ)) → shares ≡ Shares → length rebuilt ≡ greatest (map length shares) → IsXorOf (list_at shares) (length shares) rebuilt
+      → Some (parity_fragment Ends rebuilt) ≡ end_parity m f end bytes
+  parity_rebuilt rebuilt shares are long is =
+      let top = greatest Ends in
+      let made = map (xor_at Cut m) (range_with_len 0 top) in
+      let len : length rebuilt ≡ top = long ∙ ap (λ (xs : List (List ℕ)). greatest (map length xs)) are ∙ ap greatest lengths_are in
+      let count = length-map-range_with_len (xor_at Cut m) 0 top in
+      ap (λ (xs : List ℕ). Some (parity_fragment Ends xs)) (ext_get_or 0 rebuilt made (len ∙ sym count) (λ y l.
+      is y ∙ ap (λ (xs : List (List ℕ)). xor_all xs y) are ∙ xor_range (cut_to stands Ends) m y
+      ∙ xor_same (cut_to stands Ends) Cut m y (λ k low. ap (λ (z : List ℕ). get_or z y 0) (share_cut k low))
+      ∙ sym (get_or-map-range_with_len (xor_at Cut m) 0 top y y 0 (omega (arith, len)) (omega arith))))

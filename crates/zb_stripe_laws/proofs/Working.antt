@@ -31,7 +31,7 @@ carried_next maps (q ∷ qs) zero r e = ap (carried maps) (same_Some q r e)
 carried_next maps (q ∷ qs) (suc i) r e = carried_next (carried maps q) qs i r e
 
 -- what a request leaves in one place
-abbrev placed : ServerId → FragId → ServerId × Request → Option Fragment → Option Fragment
+abbrev pub placed : ServerId → FragId → ServerId × Request → Option Fragment → Option Fragment
 placed server id r before = if r.0.0 == server.0 && is_about r.1 id then stands_after r.1 before else before
 
 module _ (n f : ℕ) (out : Option ServerId) (class : Class) (log : LogId) (part : Part) where

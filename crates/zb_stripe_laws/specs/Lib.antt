@@ -1,3 +1,4 @@
 pub mod PartAtWork
+pub mod PlanAtWork
 pub mod ReadAtWork
 pub mod Restoring

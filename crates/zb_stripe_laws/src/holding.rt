@@ -1,11 +1,13 @@
-ghost use Rattle.std.specs.Prelude.{◌≡◌, ◌≢◌, ℕ, ◌<◌, ◌≤◌, Bool, false, List, length, take, slice_index, Option, Some};
+ghost use Rattle.std.specs.Prelude.{◌≡◌, ◌≢◌, ℕ, ◌<◌, ◌≤◌, Bool, false, List, length, map, take, slice_index, Option, Some};
+ghost use Rattle.std.specs.List.{range_with_len};
 ghost use Rattle.zb_types.specs.declared.ids.LogId.{LogId};
 ghost use Rattle.zb_types.specs.declared.ids.ServerId.{ServerId};
 ghost use Rattle.zb_holding.specs.Fragments.{Fragment, parity_fragment};
 ghost use Rattle.zb_holding.specs.Placing.{share_of};
 ghost use Rattle.zb_holding.specs.Holding.{View, StripeHolds, FragmentsHold, AreBytesOfStripe};
+ghost use Rattle.zb_holding.specs.Exclusive.{list_at, greatest, IsXorOf};
 ghost use Rattle.zb_parity.specs.Rebuilding.{Rebuilds};
-ghost use Rattle.zb_stripe_laws.specs.Restoring.{cut_to, end_parity, lengths_in, others_of, share_or_none, with_index};
+ghost use Rattle.zb_stripe_laws.specs.Restoring.{cut_to, end_lengths, end_parity, lengths_in, others_of, share_or_none, with_index};
 
 /// What a stripe holds up to its committed end is one list, which are its committed bytes.
 pub fn stripe_is_one_list()
@@ -58,4 +60,13 @@ pub fn rebuilt_is_the_share()
         → stands m ≡ Some (parity_fragment lengths parity) → length rebuilt ≡ slice_index lengths j
         → Rebuilds parity (others_of (cut_to stands lengths) m j) rebuilt
         → rebuilt ≡ take (slice_index lengths j) (share_of f bytes j) }
+{}
+
+/// The parity that is made of the shares that stand, each cut at the committed end, is the one over the committed end.
+pub fn rebuilt_is_the_parity()
+    ensures { (m f : ℕ) (stands : ℕ → Option Fragment) (away : ℕ → Bool) (end : ℕ) (bytes rebuilt : List ℕ) (shares : List (List ℕ))
+        → FragmentsHold m f stands away end bytes → ((k : ℕ) → k ≢ m → away k ≡ false)
+        → shares ≡ map (cut_to stands (end_lengths m f end)) (range_with_len 0 m)
+        → length rebuilt ≡ greatest (map length shares) → IsXorOf (list_at shares) (length shares) rebuilt
+        → Some (parity_fragment (end_lengths m f end) rebuilt) ≡ end_parity m f end bytes }
 {}

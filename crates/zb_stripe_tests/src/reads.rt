@@ -1,6 +1,4 @@
-ghost use Rattle.std.specs.Prelude.{◌≡◌, ◌-◌, IfOk, length};
-ghost use Rattle.zb_types.specs.declared.ids.FragId.{FragId};
-ghost use Rattle.zb_stripe.specs.Reading.{AnswersRetrieve};
+ghost use Rattle.std.specs.Prelude.{◌≡◌, length};
 
 use std::alloc::Global;
 use std::test::Fail;
@@ -39,10 +37,7 @@ fn fill(into: &mut [u8], shares: u8, index: u8, place: u32)
 }
 
 /// What is answered to a retrieve.
-fn answer(alloc: Global, geo: &Geometry, index: u8, place: u32, len: u32) -> Mem<Response>
-    ensures { IfOk result (λ t. (id : FragId) → id.index ≡ index
-        → AnswersRetrieve geo.now.servers id len t) }
-{
+fn answer(alloc: Global, geo: &Geometry, index: u8, place: u32, len: u32) -> Mem<Response> {
     let shares = (geo.servers - 1) as u8;
     let mut bytes = vec![in alloc; 0u8; len as usize]?;
     fill(&mut bytes, shares, index, place);
@@ -55,23 +50,24 @@ fn answer(alloc: Global, geo: &Geometry, index: u8, place: u32, len: u32) -> Mem
     Ok(Response::Bytes(bytes))
 }
 
-/// Feeds one answer, which is Down from the servers `down`.
-fn step(plan: &mut ReadPlan, alloc: Global, geo: &Geometry, down: [u8; 2]) -> Mem<Got>
-    requires { plan.old.servers ≡ geo.now.servers }
-    ensures { plan.new.servers ≡ plan.old.servers }
-{
+/// Feeds one answer, which is Down from the servers `down`: Gone where nothing is asked, or the answer doesn't fit.
+fn step(plan: &mut ReadPlan, alloc: Global, geo: &Geometry, down: [u8; 2]) -> Mem<Got> {
     let (server, index, place, len) = match plan.next() {
         Some((server, Request::Retrieve { id, place, len })) => (server.0, id.index, *place, *len),
         _ => return Ok(Got::Gone),
     };
-    if server == down[0] || server == down[1] {
-        return plan.feed(alloc, &Response::Down);
+    let response = if server == down[0] || server == down[1] {
+        Response::Down
+    } else {
+        answer(alloc, geo, index, place, len)?
+    };
+    if !plan.fits(&response) {
+        return Ok(Got::Gone);
     }
-    let response = answer(alloc, geo, index, place, len)?;
     plan.feed(alloc, &response)
 }
 
-/// Reads a whole stripe of log 1.
+/// Reads a whole stripe of log 1, by a copy of the plan for each answer.
 fn read(alloc: Global, geo: &Geometry, out: Option<ServerId>, down: [u8; 2]) -> Mem<Got> {
     let ptr = Ptr {
         log: LogId(1),
@@ -81,8 +77,9 @@ fn read(alloc: Global, geo: &Geometry, out: Option<ServerId>, down: [u8; 2]) -> 
     };
     let mut plan = ReadPlan::new(alloc, geo, &ptr, out)?;
     for _ in 0..64 {
-        match step(&mut plan, alloc, geo, down)? {
-            Got::More => {}
+        let mut next = plan.copy(alloc)?;
+        match step(&mut next, alloc, geo, down)? {
+            Got::More => plan = next,
             got => return Ok(got),
         }
     }

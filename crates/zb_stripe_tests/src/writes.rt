@@ -25,8 +25,7 @@ fn plan(alloc: Global, geo: &Geometry, out: Option<ServerId>) -> Mem<WritePlan>
 }
 
 /// Feeds one answer, and gives the server that was asked with what the answer comes to.
-fn step(plan: &mut WritePlan, response: &Response) -> Option<(u8, Fed)>
-{
+fn step(plan: &mut WritePlan, response: &Response) -> Option<(u8, Fed)> {
     let server = match plan.next() {
         Some((server, _)) => server.0,
         None => return None,

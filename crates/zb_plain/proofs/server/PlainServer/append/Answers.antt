@@ -7,7 +7,7 @@ use Rattle.zb_types.specs.Order.{frag_cmp}
 use Rattle.zb_types.specs.declared.requests.Request.TheVariants as ask
 use Rattle.zb_holding.specs.Carrying.{stands_after}
 use Rattle.zb_plain.specs.Standing.{Entries, fragment_of, stands_in}
-use Rattle.zb_plain.specs.Answering.{answer_to_append}
+use Rattle.zb_plain.proofs.Ruling.{append_some}
 use Rattle.zb_plain.proofs.Naming.{stands-is, put_by, after_put}
 use Rattle.zb_plain.proofs.server.PlainServer.append.Goals as goal
 
@@ -16,7 +16,8 @@ returns-clause-answer c =
     let old = c.self.inside.kept.entries in
     let there : stands_in old c.args.id ≡ Some (fragment_of c.in-Some.kept.now) = sym (stands-is old c.args.id) ∙ ap (option_map fragment_of) (sym c.in-Some.ensures.value) in
     let stands : stands_in c.args.self.now c.args.id ≡ Some (fragment_of c.in-Some.kept.now) = ap (λ (entries : Entries). stands_in entries c.args.id) (sym c.self.view_is) ∙ there in
-    subst (λ o. IfOk c.append.result (λ answer. answer ≡ answer_to_append o c.args.place c.args.bytes.now)) (sym stands) c.append.ensures.answer
+    let is = append_some c.args.self.now c.args.id c.args.place c.args.bytes.now (fragment_of c.in-Some.kept.now) stands in
+    subst (λ z. IfOk c.append.result (λ answer. answer ≡ z)) (sym is) c.append.ensures.answer
 
 pub returns-clause-carried : goal.returns-clause-carried
 returns-clause-carried c =

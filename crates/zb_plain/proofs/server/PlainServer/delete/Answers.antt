@@ -1,22 +1,22 @@
-use Rattle.std.proofs.Common.{◌≡◌, Some, None, true, refl, ap, ◌∙◌, Option}
+use Rattle.std.proofs.Common.{◌≡◌, Some, None, true, refl, sym, ap, ◌∙◌, Option}
 use Rattle.std.specs.Prelude.{option_map, is_some}
 use Rattle.zb_types.specs.declared.requests.Request.TheVariants as ask
-use Rattle.zb_types.specs.declared.requests.Response.TheVariants.{Done}
 use Rattle.zb_plain.specs.declared.kept.Kept.{Kept}
-use Rattle.zb_plain.specs.Standing.{fragment_of}
-use Rattle.zb_plain.specs.Answering.{answer_to_delete}
+use Rattle.zb_plain.specs.Standing.{fragment_of, stands_in}
+use Rattle.zb_plain.proofs.Ruling.{delete_some}
 use Rattle.zb_plain.proofs.Naming.{stands-is, put_by, after_put}
 use Rattle.zb_plain.proofs.server.PlainServer.delete.Goals as goal
 
-taken : (o : Option Kept) → is_some o ≡ true → Done ≡ answer_to_delete (option_map fragment_of o)
-taken None none = absurd cc
-taken (Some kept) some = refl
+some_mapped : (o : Option Kept) → is_some (option_map fragment_of o) ≡ is_some o
+some_mapped None = refl
+some_mapped (Some kept) = refl
 
 pub returns-clause-answer : goal.returns-clause-answer
 returns-clause-answer c =
     let old = c.self.inside.kept.entries in
     let stands = ap (option_map fragment_of) c.remove.ensures.value ∙ stands-is old c.args.id in
-    rw (← c.self.view_is) (taken c.remove.result c.if-is_none.ensures ∙ ap answer_to_delete stands)
+    let some : is_some (stands_in old c.args.id) ≡ true = sym (ap is_some stands) ∙ some_mapped c.remove.result ∙ c.if-is_none.ensures in
+    rw (← c.self.view_is) (sym (delete_some old c.args.id some))
 
 pub returns-clause-carried : goal.returns-clause-carried
 returns-clause-carried c =

@@ -4,7 +4,14 @@ use Rattle.zb_holding.specs.Fragments.{share_fragment}
 use Rattle.zb_holding.specs.Carrying.{stands_after}
 use Rattle.zb_plain.specs.declared.kept.Kept.TheVariants.{Share}
 use Rattle.zb_plain.proofs.Naming.{stands_nothing, put_by, after_put}
+use Rattle.zb_plain.proofs.Ruling.{store_free}
 use Rattle.zb_plain.proofs.server.PlainServer.store.Goals as goal
+
+pub returns-clause-answer : goal.returns-clause-answer
+returns-clause-answer c class =
+    let old = c.self.inside.kept.entries in
+    let free = stands_nothing old c.args.id (sym c.contains_key.ensures ∙ c.if-contains_key.false) in
+    rw (← c.self.view_is) (sym (store_free old c.args.id c.args.bytes.now class free))
 
 pub returns-clause-carried : goal.returns-clause-carried
 returns-clause-carried c class =

@@ -1,5 +1,5 @@
 -- What the rules of a server come to for one that keeps entries and has room.
-use Rattle.std.proofs.Common.{◌≡◌, ℕ, ◌+◌, ◌≤◌, Bool, true, false, cond, leb, List, length, take, drop, Option, Some, None, is_some, option_map, refl, sym, ap, subst, ◌∙◌}
+use Rattle.std.proofs.Common.{◌≡◌, ℕ, ◌+◌, Bool, true, false, cond, leb, List, length, take, drop, Option, Some, None, is_some, option_map, refl, sym, ap, subst, ◌∙◌}
 use Rattle.std.specs.Map.{lookup}
 use Rattle.zb_types.specs.declared.ids.FragId.{FragId}
 use Rattle.zb_types.specs.declared.nodes.Class.{Class}
@@ -8,12 +8,11 @@ use Rattle.zb_types.specs.declared.requests.Request.{Request}
 use Rattle.zb_types.specs.declared.requests.Request.TheVariants as ask
 use Rattle.zb_types.specs.declared.requests.Response.{Response}
 use Rattle.zb_types.specs.declared.requests.Response.TheVariants as told
-use Rattle.zb_types.specs.declared.requests.StoreFault.{StoreFault}
 use Rattle.zb_types.specs.declared.requests.StoreFault.TheVariants as fault
 use Rattle.zb_holding.specs.Fragments.{Fragment, share_fragment, parity_fragment}
 use Rattle.zb_holding.specs.Carrying.{found, same_frag}
 use Rattle.zb_holding.specs.Listing.{names_above, most_names, AreLeastAbove}
-use Rattle.zb_holding.specs.Rules.{size_of, no_slot, unless_there, refusal_up_to, refusal_to_append, or_by, refusal_of, IsServed, IsAnswer}
+use Rattle.zb_holding.specs.Rules.{size_of, no_slot, unless_there, refusal_up_to, refusal_to_append, or_by, IsServed, IsAnswer}
 use Rattle.zb_holding.proofs.Listed.{least_above}
 use Rattle.zb_plain.specs.declared.kept.Kept.{Kept}
 use Rattle.zb_plain.specs.Standing.{Entries, fragment_of, stands_in, IsInOrder}

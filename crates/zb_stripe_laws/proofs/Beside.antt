@@ -1,5 +1,5 @@
 -- Requests about one stripe leave each other as it is.
-use Rattle.std.proofs.Common.{◌≡◌, ℕ, Bool, false, ◌&&◌, cond, eqb, Option, refl, sym, ap, ◌∙◌, inl, inr}
+use Rattle.std.proofs.Common.{◌≡◌, ℕ, Bool, false, ◌&&◌, cond, eqb, Option, refl, ap, inl, inr}
 use Rattle.std.proofs.lemmas.Bool.{ne_eqb, and_left, and_right, cond_both}
 use Rattle.zb_types.specs.declared.ids.LogId.{LogId}
 use Rattle.zb_types.specs.declared.ids.ServerId.{ServerId}
@@ -13,7 +13,7 @@ use Rattle.zb_holding.specs.Carrying.{stands_after, same_frag, is_about, carried
 use Rattle.zb_stripe_laws.specs.PartAtWork.{IsElsewhere}
 use Rattle.zb_stripe_laws.specs.PlanAtWork.{IsBeside}
 
-other_name : (q : FragId) (log : LogId) (stripe k : ℕ) → IsElsewhere q log stripe → same_frag q (frag_id log stripe k) ≡ false
+pub other_name : (q : FragId) (log : LogId) (stripe k : ℕ) → IsElsewhere q log stripe → same_frag q (frag_id log stripe k) ≡ false
 other_name q log stripe k (inl ne) = and_left (eqb q.log.0 log.0 && eqb q.stripe stripe) (eqb q.index k) (and_left (eqb q.log.0 log.0) (eqb q.stripe stripe) (ne_eqb q.log.0 log.0 ne))
 other_name q log stripe k (inr ne) = and_left (eqb q.log.0 log.0 && eqb q.stripe stripe) (eqb q.index k) (and_right (eqb q.log.0 log.0) (eqb q.stripe stripe) (ne_eqb q.stripe stripe ne))
 

@@ -1,5 +1,5 @@
 -- What is held remains.
-use Rattle.std.proofs.Common.{◌≡◌, ◌⊎◌, ℕ, ◌<◌, ◌≤◌, Bool, false, ◌&&◌, cond, List, length, Option, Some, None, refl, inl, inr, subst, sym}
+use Rattle.std.proofs.Common.{◌≡◌, ◌⊎◌, ℕ, ◌≤◌, Bool, false, ◌&&◌, cond, List, length, Option, Some, None, refl, inl, inr, subst, sym}
 use Rattle.std.proofs.lemmas.Bool.{cond_both}
 use Rattle.zb_types.specs.declared.ids.FragId.{FragId}
 use Rattle.std.specs.Prelude.{slice_index}

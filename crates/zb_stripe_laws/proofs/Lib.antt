@@ -8,6 +8,7 @@ pub mod Gathering
 pub mod Growing
 pub mod Keeping
 pub mod Left
+pub mod Letting
 pub mod Mended
 pub mod NotEmpty
 pub mod Ongoing

@@ -11,18 +11,19 @@ use Rattle.zb_types.specs.declared.requests.Response.TheVariants as told
 use Rattle.zb_types.specs.declared.requests.StoreFault.TheVariants as fault
 use Rattle.zb_holding.specs.Fragments.{Fragment, share_fragment, parity_fragment}
 use Rattle.zb_holding.specs.Placing.{share_of, frag_id, server_of}
-use Rattle.zb_holding.specs.Holding.{Maps, Begins, IsGoneOrReaches, StripeHolds, StripeRemains, is_away, standing, away_at, view_of}
-use Rattle.zb_holding.specs.Carrying.{found}
+use Rattle.zb_holding.specs.Holding.{Maps, Begins, IsGoneOrReaches, StripeHolds, StripeRemains, standing, away_at, view_of}
+use Rattle.zb_holding.specs.Carrying.{found, carried}
 use Rattle.zb_stripe.specs.declared.read.Got.{Got}
 use Rattle.zb_stripe.specs.declared.read.Got.TheVariants as got
 use Rattle.zb_stripe.specs.declared.progress.Phase.{Phase}
 use Rattle.zb_stripe.specs.declared.progress.Phase.TheVariants.{Direct, Lengths, Others}
 use Rattle.zb_stripe.specs.Reading.{Reading, names_two, asked, fed, is_gone}
-use Rattle.zb_stripe_laws.specs.ReadAtWork.{IsGoneOrSame, IsGoneOrLonger, StillStand, StillGrow, ReadAtWork, WasLooked, TellsOfFragment, AnswersWith, MayAnswer, DidNotAnswer, IsLost, LeadsTo, AsksOther}
+use Rattle.zb_stripe_laws.specs.ReadAtWork.{LetsRead, lengths_seen, IsGoneOrSame, IsGoneOrLonger, StillStand, StillGrow, ReadAtWork, WasLooked, TellsOfFragment, AnswersWith, MayAnswer, DidNotAnswer, IsLost, LeadsTo, AsksOther}
 use Rattle.zb_stripe_laws.specs.ReadAtWork as work
 use Rattle.zb_holding.proofs.Placings.{turn_once}
 use Rattle.zb_stripe_laws.proofs.Gathering.{Good, LacksIt, step, covers_it, direct_is_there, parity_is_there}
 use Rattle.zb_stripe_laws.proofs.Left.{held_remains}
+use Rattle.zb_stripe_laws.proofs.Letting.{carried_longer}
 
 -- a range within the committed bytes is the same in lists that agree on these
 same_range : (end o k : ℕ) (one other : List ℕ) → o + k ≤ end → take end one ≡ take end other → take k (drop o one) ≡ take k (drop o other)
@@ -320,17 +321,19 @@ module _ (n f : ℕ) (ptr : Ptr) (end : ℕ) (two : 2 ≤ n) (some : 0 < f) (ins
   -- a read at work stays so over other maps and bytes
   module _ (now new : Maps) (bytes other : List ℕ) (same : take end bytes ≡ take end other) where
     stays_still : (lost : List Bool) (read : List ℕ) (phase : Phase) (w : ReadAtWork now end bytes (mk lost read phase))
-        → StillGrow n ptr now new w.y phase → StillStand n ptr new w.seen w.y phase
+        → StillGrow n ptr now new w.seen w.y phase → StillStand n ptr new w.seen w.y phase
     stays_still lost read Direct w longer = tt
     stays_still lost read Lengths w longer = tt
     stays_still lost read (Others lengths sum k) w longer = λ j l covers a.
         let q = w.fits.1 in
         let c = covers_it n f Any w.seen w.y ptr end w.then_bytes two some inside w.remained lengths w.fits.0 q.stands q.looked in
-        still_longer (standing n new ptr.log ptr.stripe j) (standing n now ptr.log ptr.stripe j) (standing n w.seen ptr.log ptr.stripe j) (get_or lengths j 0)
-        (longer j l covers a) (w.still j l covers a) (c.stored j l a)
+        elim (longer j l covers a) as (λ _. IsGoneOrSame (standing n new ptr.log ptr.stripe j) (standing n w.seen ptr.log ptr.stripe j) (get_or lengths j 0)) [
+          | inl grows ↦ still_longer (standing n new ptr.log ptr.stripe j) (standing n now ptr.log ptr.stripe j) (standing n w.seen ptr.log ptr.stripe j) (get_or lengths j 0) grows (w.still j l covers a) (c.stored j l a)
+          | inr back ↦ back
+        ]
 
     pub stays : (lost : List Bool) (read : List ℕ) (phase : Phase) (w : ReadAtWork now end bytes (mk lost read phase))
-        → StillGrow n ptr now new w.y phase → ReadAtWork new end other (mk lost read phase)
+        → StillGrow n ptr now new w.seen w.y phase → ReadAtWork new end other (mk lost read phase)
     stays lost read phase w longer = record {
       seen = w.seen;
       y = w.y;
@@ -341,3 +344,19 @@ module _ (n f : ℕ) (ptr : Ptr) (end : ℕ) (two : 2 ≤ n) (some : 0 < f) (ins
       fits = w.fits;
       still = stays_still lost read phase w longer;
     }
+
+-- a read at work stays so beside a request that lets it
+module _ (now : Maps) (asked_of : ServerId × Request) where
+  let_on : (r : Reading) (phase : Phase) → r.phase ≡ phase → (y : Option ServerId) (seen : Maps) → LetsRead r asked_of.1
+      → StillStand r.servers r.ptr now seen y phase → StillGrow r.servers r.ptr now (carried now asked_of) seen y phase
+  let_on r Direct is y seen lets still = tt
+  let_on r Lengths is y seen lets still = tt
+  let_on r (Others lengths sum k) is y seen lets still = λ j l covers a.
+      inl (carried_longer r j l (subst (λ (p : Phase). 0 < get_or (lengths_seen p) j 0) (sym is) covers) now asked_of
+      (standing r.servers seen r.ptr.log r.ptr.stripe j) (get_or lengths j 0) lets (still j l covers a))
+
+  pub beside_request : (r : Reading) (end : ℕ) (bytes : List ℕ) → 2 ≤ r.servers → 0 < r.fragment → r.ptr.offset + r.ptr.len ≤ end
+      → LetsRead r asked_of.1 → ReadAtWork now end bytes r → ReadAtWork (carried now asked_of) end bytes r
+  beside_request r end bytes two some inside lets w =
+      stays r.servers r.fragment r.ptr end two some inside now (carried now asked_of) bytes bytes refl r.lost r.read r.phase w
+      (let_on r r.phase refl w.y w.seen lets w.still)

@@ -1,20 +1,18 @@
 -- A plan of several parts, request by request.
-use Rattle.std.proofs.Common.{◌≡◌, ◌≢◌, ℕ, zero, suc, ◌+◌, ◌-◌, ◌*◌, ◌<◌, ◌≤◌, false, List, [], ◌∷◌, ◌++◌, length, take, get_or, Option, Some, refl, sym, ap, ◌∙◌, subst, arith}
+use Rattle.std.proofs.Common.{◌≡◌, ℕ, suc, ◌-◌, ◌*◌, ◌<◌, ◌≤◌, List, [], ◌∷◌, ◌++◌, length, take, get_or, Option, Some, refl, sym, ap, ◌∙◌, subst, arith}
 use Rattle.std.specs.Prelude.{All, slice_get}
-use Rattle.std.specs.List.{flat_map}
 use Rattle.std.proofs.lemmas.List.{append_assoc, append-nil, take_at, get_or_at, length-append}
 use Rattle.std.proofs.lemmas.Option.{none-some, same_Some}
-use Rattle.zb_types.specs.declared.ids.LogId.{LogId}
 use Rattle.zb_types.specs.declared.ids.ServerId.{ServerId}
 use Rattle.zb_types.specs.declared.nodes.Class.{Class}
 use Rattle.zb_types.specs.declared.requests.Request.{Request}
 use Rattle.zb_types.specs.declared.requests.Response.TheVariants as told
 use Rattle.zb_holding.specs.Placing.{frag_id, server_of}
-use Rattle.zb_holding.specs.Holding.{Maps, View, with_maps, StripeHolds, standing, away_at}
-use Rattle.zb_holding.specs.Carrying.{carried, carried_all, after_request}
+use Rattle.zb_holding.specs.Holding.{Maps, View, with_maps, StripeHolds, standing}
+use Rattle.zb_holding.specs.Carrying.{carried_all, after_request}
 use Rattle.zb_stripe.specs.declared.flush.Part.{Part}
 use Rattle.zb_stripe.specs.declared.flush.Flush.{Flush}
-use Rattle.zb_stripe.specs.Writing.{part_requests, plan_requests, IsWritable, StripesRise}
+use Rattle.zb_stripe.specs.Writing.{plan_requests, IsWritable, StripesRise}
 use Rattle.zb_stripe.specs.Feeding.{left_after}
 use Rattle.zb_stripe_laws.specs.PartAtWork.{IsSpared, MayBegin, PartAtWork, AreElsewhere, StripesDiffer, StandsAsIn}
 use Rattle.zb_stripe_laws.specs.PlanAtWork.{EachStandsAsIn, PlanAtWork}

@@ -11,6 +11,7 @@ use Rattle.zb_holding.specs.Fragments.{Fragment, share_fragment, parity_fragment
 use Rattle.zb_holding.specs.Exclusive.{xor_at}
 use Rattle.zb_holding.specs.Holding.{Maps, view_of, StripeRemains, covered, is_away, standing, away_at}
 use Rattle.zb_holding.specs.Carrying.{found}
+use Rattle.zb_stripe_laws.specs.PartAtWork.{IsElsewhere}
 use Rattle.zb_stripe.specs.declared.read.Got.{Got}
 use Rattle.zb_stripe.specs.declared.read.Got.TheVariants as got
 use Rattle.zb_stripe.specs.declared.progress.Phase.{Phase}
@@ -23,20 +24,23 @@ all_but lists j k = if k == j then [] else lists k
 
 -- of n servers with room for f bytes in a share
 module _ (n f : ℕ) (ptr : Ptr) where
-  -- where the next range begins in the stripe, behind what is read, and where the last one ends
+  -- where the next range begins in the stripe, behind what is read
   abbrev pub next_pos : List ℕ → ℕ
   next_pos read = ptr.offset + length read
 
+  -- where the last range ends
   abbrev pub last_pos : ℕ
   last_pos = ptr.offset + ptr.len
 
-  -- the share of the next range, its place there, and its length
+  -- the share of the next range
   abbrev pub next_index : List ℕ → ℕ
   next_index read = next_pos read / f
 
+  -- its place in that share
   abbrev pub next_place : List ℕ → ℕ
   next_place read = next_pos read % f
 
+  -- its length
   abbrev pub next_len : List ℕ → ℕ
   next_len read = min (last_pos - next_pos read) (f - next_place read)
 
@@ -111,13 +115,29 @@ StillStand n ptr now seen y (Others lengths sum k) = (j : ℕ) → j < n - 1 →
     → away_at n y ptr.log ptr.stripe j ≡ false
     → IsGoneOrSame (standing n now ptr.log ptr.stripe j) (standing n seen ptr.log ptr.stripe j) (slice_index lengths j)
 
--- each share that a read may still ask for, from old maps to new ones, is gone or has what it had and perhaps more
-abbrev pub StillGrow : ℕ → Ptr → Maps → Maps → Option ServerId → Phase → Type 0
-StillGrow n ptr old new y Direct = Unit {0}
-StillGrow n ptr old new y Lengths = Unit {0}
-StillGrow n ptr old new y (Others lengths sum k) = (j : ℕ) → j < n - 1 → 0 < slice_index lengths j
+-- from old maps to new ones each share that a read may still ask for is gone, or has what it had and perhaps more, or was
+-- put back as it was when the parity was seen
+abbrev pub StillGrow : ℕ → Ptr → Maps → Maps → Maps → Option ServerId → Phase → Type 0
+StillGrow n ptr old new seen y Direct = Unit {0}
+StillGrow n ptr old new seen y Lengths = Unit {0}
+StillGrow n ptr old new seen y (Others lengths sum k) = (j : ℕ) → j < n - 1 → 0 < slice_index lengths j
     → away_at n y ptr.log ptr.stripe j ≡ false
     → IsGoneOrLonger (standing n new ptr.log ptr.stripe j) (standing n old ptr.log ptr.stripe j)
+    ⊎ IsGoneOrSame (standing n new ptr.log ptr.stripe j) (standing n seen ptr.log ptr.stripe j) (slice_index lengths j)
+
+-- the lengths that the parity covered, none where it isn't seen yet
+abbrev pub lengths_seen : Phase → List ℕ
+lengths_seen Direct = []
+lengths_seen Lengths = []
+lengths_seen (Others lengths sum k) = lengths
+
+-- a request that puts nothing in the place of a share that a read may still ask for: it stores or replaces a fragment of
+-- another stripe, a share of which the parity covered nothing, or the parity; or it adds to a share, deletes, or only asks
+abbrev pub LetsRead : Reading → Request → Type 0
+LetsRead r (ask.Store id bytes class) =
+    IsElsewhere id r.ptr.log r.ptr.stripe ⊎ (slice_index (lengths_seen r.phase) id.index ≡ 0)
+LetsRead r (ask.Parity id lengths bytes class) = IsElsewhere id r.ptr.log r.ptr.stripe ⊎ (id.index ≡ r.servers - 1)
+LetsRead r request = Unit {0}
 
 -- A read at work, whose stripe is committed up to `end` with the same bytes throughout: what remained of the stripe in
 -- the maps in which its range's parity was seen is of these bytes, what it has is theirs, and what it still asks for is

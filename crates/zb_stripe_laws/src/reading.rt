@@ -1,12 +1,15 @@
 ghost use Rattle.std.specs.Prelude.{◌≡◌, ℕ, ◌+◌, ◌*◌, ◌<◌, ◌≤◌, List, length, take, drop, Option, IfSome, IsSome};
 ghost use Rattle.zb_types.specs.declared.ids.ServerId.{ServerId};
 ghost use Rattle.zb_types.specs.declared.ids.Ptr.{Ptr};
+ghost use Rattle.zb_types.specs.declared.requests.Request.{Request};
 ghost use Rattle.zb_types.specs.declared.requests.Response.{Response};
 ghost use Rattle.zb_holding.specs.Holding.{Maps, View, view_of, StripeHolds, StripeRemains, is_away};
+ghost use Rattle.zb_holding.specs.Carrying.{carried};
 ghost use Rattle.zb_stripe.specs.Reading.{Reading, start, server_at, is_lost, asked, fed, answered};
 ghost use Rattle.zb_stripe_laws.specs.ReadAtWork.{
   ReadAtWork,
   StillGrow,
+  LetsRead,
   WasLooked,
   TellsOfFragment,
   IsOutOf,
@@ -34,10 +37,10 @@ pub fn read_gives_bytes()
         → (ptr.len + 1) * (v.servers + 2) ≤ length responses → IsSome (answered (start v.servers v.fragment ptr out) responses) }
 {}
 
-/// A read while others write, answer by answer: it begins at work over what remains of its stripe, stays so over maps with
-/// the same committed bytes whose shares are gone or grow, and an answer from the maps of now leads it on or to an end that
-/// is right. It is gone only where the fragment that is asked for isn't there: of a stripe that is held, another share than
-/// the range's own.
+/// A read while others write, answer by answer: it begins at work over what remains of its stripe, and stays so over maps
+/// with the same committed bytes whose shares are gone, grow or are put back, as beside any request but one that puts another fragment
+/// in the place of a share. An answer from the maps of now leads it on, or to an end that is right. It is gone only where
+/// the fragment that is asked for isn't there: of a stripe that is held, another share than the range's own.
 pub fn read_goes_on()
     ensures begins { (v : View) (out : Option ServerId) (ptr : Ptr) (end : ℕ) (bytes : List ℕ)
         → 2 ≤ v.servers → 0 < v.fragment → 0 < ptr.len → ptr.offset + ptr.len ≤ end
@@ -47,8 +50,11 @@ pub fn read_goes_on()
         → k < n → is_lost (start n f ptr out) k ≡ is_away out (server_at (start n f ptr out) k) }
     ensures stays { (now new : Maps) (end : ℕ) (bytes other : List ℕ) (r : Reading) (work : ReadAtWork now end bytes r)
         → 2 ≤ r.servers → 0 < r.fragment → r.ptr.offset + r.ptr.len ≤ end → take end bytes ≡ take end other
-        → StillGrow r.servers r.ptr now new work.y r.phase
+        → StillGrow r.servers r.ptr now new work.seen work.y r.phase
         → ReadAtWork new end other r }
+    ensures beside { (now : Maps) (end : ℕ) (bytes : List ℕ) (r : Reading) (asked : ServerId × Request)
+        → 2 ≤ r.servers → 0 < r.fragment → r.ptr.offset + r.ptr.len ≤ end
+        → LetsRead r asked.1 → ReadAtWork now end bytes r → ReadAtWork (carried now asked) end bytes r }
     ensures goes_on { (now : Maps) (x : Option ServerId) (end : ℕ) (bytes : List ℕ) (r : Reading) (response : Response) (work : ReadAtWork now end bytes r)
         → 2 ≤ r.servers → 0 < r.fragment → r.ptr.offset + r.ptr.len ≤ end
         → StripeRemains (view_of r.servers r.fragment now x) r.ptr.log r.ptr.stripe end bytes

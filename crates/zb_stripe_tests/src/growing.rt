@@ -10,12 +10,12 @@ ghost use Rattle.zb_stripe_laws.specs.ReadAtWork.{StillGrow};
 /// third share isn't there. A read that asks for the others in place of the first stays at work while the second share
 /// grows and the third is stored.
 pub fn a_read_stays_while_its_stripe_grows()
-    ensures { (old new : Maps) (y : Option ServerId) (ptr : Ptr) (first second more third sum : List ℕ)
+    ensures { (old new seen : Maps) (y : Option ServerId) (ptr : Ptr) (first second more third sum : List ℕ)
         → standing 4 old ptr.log ptr.stripe 0 ≡ Some (share_fragment first)
         → standing 4 new ptr.log ptr.stripe 0 ≡ Some (share_fragment first)
         → standing 4 old ptr.log ptr.stripe 1 ≡ Some (share_fragment second)
         → standing 4 new ptr.log ptr.stripe 1 ≡ Some (share_fragment (second ++ more))
         → standing 4 old ptr.log ptr.stripe 2 ≡ None
         → standing 4 new ptr.log ptr.stripe 2 ≡ Some (share_fragment third)
-        → StillGrow 4 ptr old new y (phase.Others (256 ∷ 44 ∷ 0 ∷ []) sum 1) }
+        → StillGrow 4 ptr old new seen y (phase.Others (256 ∷ 44 ∷ 0 ∷ []) sum 1) }
 {}

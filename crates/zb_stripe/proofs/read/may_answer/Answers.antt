@@ -1,5 +1,4 @@
 use Rattle.std.proofs.Common.{subst, sym}
-use Rattle.zb_types.specs.declared.requests.Response.{Response}
 use Rattle.zb_stripe.specs.Reading.{AnswersRetrieve}
 use Rattle.zb_stripe.proofs.read.may_answer.Goals as goal
 

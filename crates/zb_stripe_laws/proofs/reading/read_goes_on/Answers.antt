@@ -5,7 +5,7 @@ use Rattle.zb_holding.specs.Holding.{is_away}
 use Rattle.zb_stripe.specs.Reading.{first_lost}
 use Rattle.zb_stripe_laws.specs.ReadAtWork.{ReadAtWork}
 use Rattle.zb_stripe_laws.proofs.Gathering.{starts}
-use Rattle.zb_stripe_laws.proofs.Ongoing.{at_work, goes_on, gone_other, stays}
+use Rattle.zb_stripe_laws.proofs.Ongoing.{at_work, goes_on, gone_other, stays, beside_request}
 use Rattle.zb_stripe_laws.proofs.reading.read_goes_on.Goals as goal
 
 pub returns-clause-begins : goal.returns-clause-begins
@@ -28,3 +28,6 @@ returns-clause-goes_on c now x end bytes r response work two some inside remains
 pub returns-clause-gone : goal.returns-clause-gone
 returns-clause-gone c now x end bytes r response work two some inside held answers gone =
     gone_other r.servers r.fragment r.ptr end two some inside now x bytes held r.lost r.read r.phase response work answers gone
+
+pub returns-clause-beside : goal.returns-clause-beside
+returns-clause-beside c now end bytes r asked two some inside lets work = beside_request now asked r end bytes two some inside lets work

@@ -1,4 +1,4 @@
-use Rattle.std.proofs.Common.{◌≡◌, ℕ, zero, suc, List, ◌++◌, length, take, Option, Some, None, refl, sym, ap, ◌∙◌, subst, arith}
+use Rattle.std.proofs.Common.{◌≡◌, ℕ, zero, suc, List, ◌++◌, length, Option, Some, refl, sym, subst, arith, inl}
 use Rattle.std.proofs.lemmas.List.{take_at, take_all}
 use Rattle.zb_holding.specs.Fragments.{Fragment, share_fragment}
 use Rattle.zb_stripe_laws.specs.ReadAtWork.{IsGoneOrLonger}
@@ -15,7 +15,7 @@ same new old was o n =
     (subst (λ z. IsGoneOrLonger (Some (share_fragment was)) z) (sym o) (sym (take_all (length was) was (omega arith))))
 
 pub returns : goal.returns
-returns c old new y ptr first second more third sum a b d e f g zero low covers away = same _ _ first a b
-returns c old new y ptr first second more third sum a b d e f g (suc zero) low covers away = longer _ _ second more d e
-returns c old new y ptr first second more third sum a b d e f g (suc (suc zero)) low covers away = absurd (omega (arith, covers))
-returns c old new y ptr first second more third sum a b d e f g (suc (suc (suc j))) low covers away = absurd (omega (arith, low))
+returns c old new seen y ptr first second more third sum a b d e f g zero low covers away = inl (same _ _ first a b)
+returns c old new seen y ptr first second more third sum a b d e f g (suc zero) low covers away = inl (longer _ _ second more d e)
+returns c old new seen y ptr first second more third sum a b d e f g (suc (suc zero)) low covers away = absurd (omega (arith, covers))
+returns c old new seen y ptr first second more third sum a b d e f g (suc (suc (suc j))) low covers away = absurd (omega (arith, low))

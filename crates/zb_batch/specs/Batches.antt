@@ -20,6 +20,7 @@ IsUpdateOf fid version (Update body) = (body.fid ≡ fid) × (body.version ≡ v
 IsUpdateOf fid version (CleanDelta body) = ⊥
 IsUpdateOf fid version (Reject body table) = ⊥
 
+-- a change by the cleaner
 abbrev pub IsCleanDelta : Delta → Type 0
 IsCleanDelta (Update body) = ⊥
 IsCleanDelta (CleanDelta body) = Unit {0}

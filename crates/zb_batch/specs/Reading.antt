@@ -16,6 +16,7 @@ use Rattle.zb_batch.specs.declared.owners.Owner.TheVariants.{Client, Cleaner}
 use Rattle.zb_batch.specs.Spelling.{kind_of_name, kind_of, call_of, ops_text, delta_count, meta_length}
 use Rattle.zb_batch.specs.Batches.{IsUpdateOf, IsCleanDelta, IsNameCall, IsOp, is_company}
 
+-- the bytes of a valid path
 abbrev pub IsPath : List ℕ → Type 0
 IsPath path = IsTrue (is_path path)
 
@@ -35,10 +36,11 @@ counts_text header = number_text 2 header.ops ++ (zeros 2 ++ (number_text 4 head
 abbrev pub numbers_text : Header → List ℕ
 numbers_text header = number_text 4 header.log.0 ++ (number_text 8 header.number ++ (number_text 4 header.size ++ counts_text header))
 
+-- the first word, and what stands behind it
 abbrev pub header_text : Header → List ℕ
 header_text header = codes "ZBBT" ++ numbers_text header
 
--- how many bytes an operation takes
+-- how many bytes the paths of a name operation take
 abbrev pub paths_length : Call → ℕ
 paths_length (Create path) = 2 + length path
 paths_length (Mkdir path) = 2 + length path
@@ -52,6 +54,7 @@ paths_length (ListOf path) = 0
 paths_length (Stat path) = 0
 paths_length (Find path) = 0
 
+-- how many bytes an operation takes
 abbrev pub op_length : Op → ℕ
 op_length (Name call what) = 9 + paths_length what
 op_length (Write call fid version offset len deltas) = 9 + (24 + 58 * length deltas)
@@ -64,6 +67,7 @@ abbrev pub IsOwned : Owner → Delta → Type 0
 IsOwned (Client fid version) delta = IsUpdateOf fid version delta
 IsOwned Cleaner delta = IsCleanDelta delta
 
+-- a delta with room that an owner has
 abbrev pub IsDeltaOf : Owner → Delta → Type 0
 IsDeltaOf owner delta = IsDelta delta × IsOwned owner delta
 

@@ -46,6 +46,7 @@ kind_of_name (ListOf path) = 0
 kind_of_name (Stat path) = 0
 kind_of_name (Find path) = 0
 
+-- the number of an operation's kind
 abbrev pub kind_of : Op → ℕ
 kind_of (Name call what) = kind_of_name what
 kind_of (Write call fid version offset len deltas) = 5
@@ -61,6 +62,7 @@ call_of (Cut call fid version size deltas) = call
 call_of (Sync call) = call
 call_of (Clean deltas) = 0
 
+-- the deltas of an operation, none of a name operation or a sync
 abbrev pub deltas_of : Op → List Delta
 deltas_of (Name call what) = []
 deltas_of (Write call fid version offset len deltas) = deltas
@@ -77,6 +79,7 @@ rest_text (Cut call fid version size deltas) = number_text 4 fid.0 ++ (number_te
 rest_text (Sync call) = []
 rest_text (Clean deltas) = deltas_text deltas
 
+-- the kind, the call's number, and the rest
 unfoldable pub op_text : Op → List ℕ
 op_text op = kind_of op ∷ (number_text 8 (call_of op) ++ rest_text op)
 

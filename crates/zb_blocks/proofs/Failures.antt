@@ -1,16 +1,14 @@
 -- Blocks that memory ran out for.
-use Rattle.std.proofs.Common.{◌≡◌, ◌-◌, ◌*◌, ℕ, ◌+◌, ◌<◌, List, [], ◌∷◌, ◌++◌, length, take, Option, Some, None, refl, sym, ap, subst, ◌∙◌, inl, inr, arith}
+use Rattle.std.proofs.Common.{◌≡◌, ℕ, ◌+◌, ◌<◌, List, [], ◌∷◌, ◌++◌, length, take, Option, Some, None, refl, sym, ap, subst, ◌∙◌, inl, inr, arith}
 use Rattle.std.specs.Prelude.{slice_index}
 use Rattle.std.proofs.lemmas.Bool.{cases_lt}
-use Rattle.zb_types.specs.declared.ids.Ptr.{Ptr}
 use Rattle.zb_holding.specs.Holding.{StripeHolds, view_of}
 use Rattle.zb_stripe.specs.declared.flush.Part.{Part}
 use Rattle.zb_stripe.specs.declared.flush.Flush.{Flush}
 use Rattle.zb_stripe_laws.specs.PartAtWork.{AreElsewhere}
-use Rattle.zb_log.specs.declared.places.Place.{Place}
 use Rattle.zb_log.specs.declared.placed.Placed.{Placed}
 use Rattle.zb_log.specs.Places.{place}
-use Rattle.zb_log.specs.Logs.{SeenLog, last_of}
+use Rattle.zb_log.specs.Logs.{last_of}
 use Rattle.zb_plain.specs.Standing.{Entries, maps_of}
 use Rattle.zb_plain.specs.Delivering.{IsBegun}
 use Rattle.zb_blocks.specs.Blocks.{SeenBlocks, IsSound, LogStands, LogFits, blocks_log, end_of, contents_of, HaveSameContents}

@@ -71,6 +71,7 @@ pub record HaveSameContents (old new : SeenBlocks) : Type 0 where
   pub ends : (stripe : ℕ) → end_of new stripe ≡ end_of old stripe
   pub bytes : (stripe : ℕ) → contents_of new stripe ≡ contents_of old stripe
 
+-- the sizes of the system are as they were
 pub record HaveSameSizes (old new : SeenBlocks) : Type 0 where
   pub servers : new.servers ≡ old.servers
   pub fragment : new.fragment ≡ old.fragment

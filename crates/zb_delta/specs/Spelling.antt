@@ -23,6 +23,7 @@ old_text (Some p) = 1 ∷ ptr_text p
 abbrev pub body_text : Body → List ℕ
 body_text body = number_text 4 body.fid.0 ++ (number_text 8 body.version ++ (number_text 4 body.block ++ (old_text body.was ++ ptr_text body.now)))
 
+-- the number of a delta's kind
 abbrev pub kind_of : Delta → ℕ
 kind_of (Update body) = 1
 kind_of (Clean body) = 2
@@ -51,9 +52,11 @@ pub record IsPtr (p : Ptr) : Type 0 where
   pub offset : IsBelow 4 p.offset
   pub len : IsBelow 4 p.len
 
+-- an old pointer, if there is one, has room in its bytes
 abbrev pub IsOld : Option Ptr → Type 0
 IsOld was = IfSome was IsPtr
 
+-- each number of a body has room in its bytes
 pub record IsBody (body : Body) : Type 0 where
   pub fid : IsBelow 4 body.fid.0
   pub version : IsBelow 8 body.version
@@ -61,6 +64,7 @@ pub record IsBody (body : Body) : Type 0 where
   pub was : IsOld body.was
   pub now : IsPtr body.now
 
+-- a delta whose numbers have room in their bytes
 abbrev pub IsDelta : Delta → Type 0
 IsDelta delta = IsBody (body_of delta)
 

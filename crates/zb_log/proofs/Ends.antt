@@ -1,6 +1,6 @@
 -- The place behind a batch, with no list of what was placed.
-use Rattle.std.proofs.Common.{◌≡◌, true, false, subst, ℕ, zero, suc, ◌+◌, ◌-◌, ◌<◌, ◌≤◌, Bool, cond, leb, List, [], ◌∷◌, length, get_or, drop, fold, refl, sym, ap, ◌∙◌, arith}
-use Rattle.std.proofs.lemmas.Bool.{cond_both, leb-true, le-leb}
+use Rattle.std.proofs.Common.{◌≡◌, true, false, subst, ℕ, zero, suc, ◌+◌, ◌<◌, ◌≤◌, Bool, cond, leb, List, [], ◌∷◌, length, get_or, drop, fold, refl, sym, ap, ◌∙◌, arith}
+use Rattle.std.proofs.lemmas.Bool.{cond_both, le-leb}
 use Rattle.std.proofs.lemmas.List.{at_drop_more}
 use Rattle.zb_log.specs.declared.places.Place.{Place}
 use Rattle.zb_log.specs.Places.{place, behind}

@@ -1,5 +1,5 @@
 -- The blocks of a batch lie in order.
-use Rattle.std.proofs.Common.{◌≡◌, ◌⊎◌, inl, inr, ℕ, zero, suc, ◌+◌, ◌-◌, ◌<◌, ◌≤◌, ltb, List, [], ◌∷◌, ◌++◌, map, fold, refl, sym, ap, subst, ◌∙◌, arith}
+use Rattle.std.proofs.Common.{◌≡◌, ◌⊎◌, inl, inr, ℕ, zero, suc, ◌+◌, ◌-◌, ◌≤◌, ltb, List, [], ◌∷◌, ◌++◌, map, fold, refl, sym, subst, ◌∙◌, arith}
 use Rattle.std.specs.Prelude.{Any}
 use Rattle.std.proofs.lemmas.Bool.{cond_both, ltb-true}
 use Rattle.std.proofs.lemmas.List.{map-append, append-nil, append_assoc}
@@ -10,7 +10,7 @@ use Rattle.zb_types.specs.declared.ids.Piece.{Piece}
 use Rattle.zb_types.specs.declared.ids.Ptr.{Ptr}
 use Rattle.zb_log.specs.declared.places.Place.{Place}
 use Rattle.zb_log.specs.Places.{place, behind, piece_at, ptr_at, range_of, IsWithin, InOrder}
-use Rattle.zb_log.specs.Placing.{Laid, between, pieces_of, turned, ready, moved, added, with_meta, with_block}
+use Rattle.zb_log.specs.Placing.{Laid, between, pieces_of, ready, moved, added, with_meta, with_block}
 use Rattle.zb_log.specs.Logs.{IsPtrIn}
 use Rattle.zb_log.proofs.Steps.{ready_both, ready_room, ready_fits}
 use Rattle.zb_log.proofs.Order.{IsLaid, upto_refl, order_to, order_append, laid_ready, laid_block}

@@ -12,7 +12,8 @@ use Rattle.zb_names.specs.declared.entries.Kept.{Kept}
 use Rattle.zb_names.specs.Shown.{kept_as, shown, begins_with}
 use Rattle.zb_names.specs.Sound.{key_cmp}
 use Rattle.zb_names.specs.Moving.{behind}
-use Rattle.zb_names.proofs.Behind.{from_front, from_front-kept, from_front-left, before_front, none_behind}
+use Rattle.zb_names.specs.Listing.{from_front}
+use Rattle.zb_names.proofs.Behind.{from_front-kept, from_front-left, before_front, none_behind}
 
 pub behind-cons : (front path : List ℕ) (entry : Entry) (es : List (List ℕ × Entry)) → begins_with front path ≡ true → behind front ((path, entry) ∷ es) ≡ (path, entry) ∷ behind front es
 behind-cons front path entry es begins = rw begins refl

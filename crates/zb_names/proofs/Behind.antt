@@ -4,23 +4,18 @@ use Rattle.std.specs.List.{AllByRecursion, list_any, starts_with}
 use Rattle.std.proofs.lemmas.Cmp.{nat_list_eq_equiv}
 use Rattle.std.specs.List.Sorted.{IsStrictlySortedBy}
 use Rattle.std.specs.declared.vec.Vec.{Vec}
-use Rattle.std.specs.declared.ops.Bound.TheVariants.{Included, Unbounded}
 use Rattle.std.specs.declared.cmp.Ordering.TheVariants.{Less}
 use Rattle.std.specs.Ordering.{nat_cmp, is_le}
 use Rattle.std.specs.Cmp.Lexicographic.{slice_cmp}
 use Rattle.std.specs.Map.{keys_of}
-use Rattle.std.specs.BTreeMap.Range.{entries_between}
 use Rattle.std.proofs.lemmas.Bool.{cases_Bool, false≢true}
 use Rattle.std.proofs.lemmas.Map.Keys.{sorted_head, sorted_tail}
 use Rattle.zb_types.specs.Names.{Entry}
 use Rattle.zb_names.specs.declared.entries.Kept.{Kept}
 use Rattle.zb_names.specs.Shown.{shown, begins_with}
+use Rattle.zb_names.specs.Listing.{from_front}
 use Rattle.zb_names.proofs.Below.{front_le, past_front}
 use Rattle.zb_names.specs.Sound.{key_cmp}
-
--- the entries from a front on
-abbrev pub from_front : {Z : Type 0} → Vec ℕ Z → List (Vec ℕ Z × Kept) → List (Vec ℕ Z × Kept)
-from_front front es = entries_between key_cmp (Included front) Unbounded es
 
 pub from_front-kept : {Z : Type 0} (front : Vec ℕ Z) (e : Vec ℕ Z × Kept) (es : List (Vec ℕ Z × Kept)) → is_le (key_cmp front e.0) ≡ true → from_front front (e ∷ es) ≡ e ∷ from_front front es
 from_front-kept front e es le = rw le refl

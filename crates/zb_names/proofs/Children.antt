@@ -12,10 +12,10 @@ use Rattle.zb_types.specs.Paths.{is_path}
 use Rattle.zb_types.specs.Names.{Entry, names_in}
 use Rattle.zb_names.specs.declared.entries.Kept.{Kept}
 use Rattle.zb_names.specs.Shown.{kept_as, shown, begins_with}
-use Rattle.zb_names.specs.Listing.{IsFront, name_of, names_behind}
+use Rattle.zb_names.specs.Listing.{IsFront, has_slash, from_front, name_of, names_behind}
 use Rattle.zb_names.specs.Sound.{key_cmp}
-use Rattle.zb_names.proofs.Behind.{from_front, from_front-kept, from_front-left, before_front}
-use Rattle.zb_names.proofs.NameParts.{has_slash, name_behind}
+use Rattle.zb_names.proofs.Behind.{from_front-kept, from_front-left, before_front}
+use Rattle.zb_names.proofs.NameParts.{name_behind}
 use Rattle.zb_names.proofs.Removing.{begins-below}
 
 -- one path more

@@ -19,3 +19,4 @@ pub mod Lying
 pub mod Renaming
 pub mod Movable
 pub mod Shifting
+pub mod Skipping

@@ -1,15 +1,12 @@
 -- What stands behind a slash of a path: names and slashes.
 use Rattle.std.proofs.Common.{◌≡◌, ℕ, ◌≤◌, Bool, true, false, not, ◌&&◌, eqb, leb, List, [], ◌∷◌, ◌++◌, length, take, drop, refl, sym, ap, ◌∙◌, inl, inr, arith}
-use Rattle.std.specs.List.{list_any, list_all}
+use Rattle.std.specs.List.{list_all}
 use Rattle.std.proofs.lemmas.List.{append-nil, append_assoc, take-append-drop}
 use Rattle.std.proofs.lemmas.Bool.{cases_Bool, and_parts, or_parts, or_cases, and_right, false≢true, eqb-true, and_from, le-leb}
 use Rattle.std.proofs.lemmas.Slice.Eq.{bytes_eq-Decides}
 use Rattle.zb_types.specs.Paths.{is_name_byte, is_name, are_names, is_path}
 use Rattle.zb_names.specs.Shown.{begins_with}
-use Rattle.zb_names.specs.Listing.{IsFront}
-
-abbrev pub has_slash : List ℕ → Bool
-has_slash text = list_any (λ b. eqb b 47) text
+use Rattle.zb_names.specs.Listing.{IsFront, has_slash}
 
 are_names_past : (name before after : List ℕ) → are_names name (before ++ 47 ∷ after) ≡ true → are_names [] after ≡ true
 are_names_past name [] after names = (and_parts (is_name name) (are_names [] after) names).1
@@ -31,7 +28,7 @@ slash_no_name_bytes (b ∷ text) some = elim (or_cases (eqb b 47) (has_slash tex
   | inr later ↦ and_right (is_name_byte b) (list_all is_name_byte text) (slash_no_name_bytes text later)
 ]
 
-slash_no_name : (text : List ℕ) → has_slash text ≡ true → is_name text ≡ false
+pub slash_no_name : (text : List ℕ) → has_slash text ≡ true → is_name text ≡ false
 slash_no_name text some = and_right _ (list_all is_name_byte text) (slash_no_name_bytes text some)
 
 -- among names, one is a name where it has no slash

@@ -4,6 +4,7 @@ use Rattle.std.specs.Ordering.{nat_cmp, is_lt}
 use Rattle.std.specs.Cmp.Lexicographic.{slice_cmp}
 use Rattle.zb_names.specs.declared.entries.Entry.{Entry as Given}
 
+-- the paths of given entries
 abbrev pub paths_of : List (List ℕ × Given) → List (List ℕ)
 paths_of list = map (λ e. e.0) list
 

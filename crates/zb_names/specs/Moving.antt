@@ -7,9 +7,11 @@ use Rattle.zb_types.specs.Names.{Entry, has, is_within, max_path, with_entries}
 use Rattle.zb_names.specs.declared.moving.Move.{Move}
 use Rattle.zb_names.specs.Shown.{seen, begins_with}
 
+-- the paths that entries move from
 abbrev pub olds_of : List Move → List (List ℕ)
 olds_of moves = map (λ m. m.old.items) moves
 
+-- the paths that entries move to
 abbrev pub news_of : List Move → List (List ℕ)
 news_of moves = map (λ m. m.new.items) moves
 
@@ -43,6 +45,7 @@ abbrev pub AreNew : List (List ℕ × Entry) → List (List ℕ × Entry) → Ty
 AreNew [] entries = Unit {0}
 AreNew (new ∷ more) entries = (has new.0 (with_entries more entries) ≡ false) × AreNew more entries
 
+-- whether a path is one of these
 abbrev pub is_among : List (List ℕ) → List ℕ → Bool
 is_among paths path = list_any (λ p. bytes_eq p path) paths
 

@@ -18,13 +18,16 @@ abbrev pub seen : Given → Entry
 seen GivenDir = directory
 seen (GivenFile fid) = numbered fid.0
 
+-- given entries, as the plain tree has them
 abbrev pub listed : List (List ℕ × Given) → List (List ℕ × Entry)
 listed es = map (λ e. (e.0, seen e.1)) es
 
+-- what is kept, as an entry of the plain tree
 abbrev pub kept_as : Kept → Entry
 kept_as (Dir front) = directory
 kept_as (File fid) = numbered fid.0
 
+-- the entries of the map, as the plain tree has them
 abbrev pub shown : {Z : Type 0} → List (Vec ℕ Z × Kept) → List (List ℕ × Entry)
 shown es = map (λ e. (e.0.items, kept_as e.1)) es
 
@@ -41,5 +44,6 @@ abbrev pub change_of : Option Fid → Change
 change_of None = same
 change_of (Some fid) = drops fid.0
 
+-- whether a path begins with these bytes
 abbrev pub begins_with : List ℕ → List ℕ → Bool
 begins_with front path = bytes_eq (take (length front) path) front

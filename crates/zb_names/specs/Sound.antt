@@ -40,6 +40,7 @@ pub record IsCopy (kept copy : Kept) : Type 0 where
 abbrev pub key_cmp : {Z : Type 0} → Vec ℕ Z → Vec ℕ Z → Ordering
 key_cmp a b = slice_cmp nat_cmp a.items b.items
 
+-- the entries of the map are a tree, and each directory keeps its front
 pub record IsSound {Z : Type 0} (next : ℕ) (kept : List (Vec ℕ Z × Kept)) : Type 0 where
   pub tree : IsTree next (shown kept)
   pub fronts : AllByRecursion (λ e. HasFront e.0.items e.1) kept

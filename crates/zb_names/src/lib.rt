@@ -3,6 +3,7 @@
 
 mod entries;
 mod faults;
+mod in_order;
 mod listing;
 mod loading;
 mod looking;
@@ -12,4 +13,5 @@ mod table;
 
 pub use entries::Entry;
 pub use faults::NameFault;
+pub use in_order::Entries;
 pub use table::Names;

@@ -12,6 +12,7 @@ ghost use Rattle.zb_names.specs.Answers.{IsAnswer};
 
 use crate::entries::{Entry, EntryMap, Kept, put};
 use crate::faults::NameFault;
+use crate::in_order::Entries;
 use crate::listing::names_behind;
 use crate::loading::{all_hang, are_numbered, gather, rise};
 use crate::looking::{entry_at, has_below, refusal_of_new};
@@ -210,6 +211,13 @@ impl Names {
             list.push((path_of(alloc, key)?, kept.entry()))?;
         }
         Ok(list)
+    }
+
+    /// Goes through each path with what stands there, in the order of the paths' bytes, without memory.
+    pub fn iter(&self) -> Entries<'_>
+        ensures { result ≡ self.now.entries }
+    {
+        Entries::of(self.kept.iter())
     }
 
     /// The path with this place in the order of the paths' bytes, from 0, and what stands there. It takes as many steps.

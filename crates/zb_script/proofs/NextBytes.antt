@@ -1,10 +1,9 @@
 -- What the next bytes of a script are.
-use Rattle.std.proofs.Common.{◌≡◌, ℕ, zero, suc, ◌+◌, ◌-◌, ◌<◌, ◌≤◌, true, false, not, ◌&&◌, eqb, List, [], ◌∷◌, ◌++◌, length, get_or, take, drop, Some, None, inl, inr, refl, sym, ap, ◌∙◌, append_assoc, arith}
+use Rattle.std.proofs.Common.{◌≡◌, ℕ, zero, suc, ◌+◌, ◌-◌, ◌<◌, ◌≤◌, true, false, not, eqb, List, [], ◌∷◌, ◌++◌, length, get_or, take, drop, Some, None, inl, inr, refl, sym, ap, ◌∙◌, append_assoc, arith}
 use Rattle.std.specs.Prelude.{position, ◌≢◌}
 use Rattle.std.proofs.lemmas.List.{length-append, length-take, append_cancel_right}
 use Rattle.std.proofs.lemmas.Bool.Decides.{nat_tests}
 use Rattle.zb_types.specs.declared.geometry.Geometry.{Geometry}
-use Rattle.zb_types.specs.declared.lines.Line.{Line}
 use Rattle.zb_claims.specs.Text.{newline, header_text, words, IsLine, max_script}
 use Rattle.zb_claims.specs.Script.{skipped, said, is_comment}
 use Rattle.zb_claims.specs.Reading.{Reads}
@@ -16,7 +15,7 @@ use Rattle.zb_script.specs.declared.reader.Parsed.{Parsed}
 use Rattle.zb_script.specs.declared.reader.Parsed.TheVariants as parsed
 use Rattle.zb_script.specs.Places.{Place, MayStand, IsFront, IsBadHere, IsOpen, IsNext, IsWhole}
 use Rattle.zb_script.proofs.Marks.{is_end, IsMark, marked, unmarked}
-use Rattle.zb_script.proofs.Short.{IsEnded, ended}
+use Rattle.zb_script.proofs.Short.{ended}
 
 -- the line at the front is the bytes before the first line end
 line_at : (bytes more : List ℕ) (n : ℕ) (line after : List ℕ) → IsMark bytes n → clean line ≡ true → bytes ++ more ≡ line ++ 10 ∷ after → line ≡ take n bytes

@@ -1,5 +1,5 @@
 -- What may stand in a script is one line: it has one line end, at its end, and is short.
-use Rattle.std.proofs.Common.{◌≡◌, ◌⊎◌, ℕ, suc, ◌*◌, ◌+◌, ◌/◌, ◌%◌, ◌≤◌, ◌<◌, ◌^◌, true, false, not, cond, ◌&&◌, ◌||◌, eqb, List, [], ◌∷◌, ◌++◌, length, Option, Some, None, inl, inr, refl, sym, ap, subst, ◌∙◌, arith}
+use Rattle.std.proofs.Common.{◌≡◌, ℕ, ◌*◌, ◌/◌, ◌%◌, ◌≤◌, true, false, not, cond, ◌&&◌, ◌||◌, eqb, List, [], ◌∷◌, ◌++◌, length, Option, Some, None, inl, inr, refl, sym, ap, subst, ◌∙◌, arith}
 use Rattle.std.specs.Prelude.{codes, nat_le}
 use Rattle.std.specs.List.{flat_map}
 use Rattle.std.specs.Fmt.{decimal}
@@ -19,7 +19,7 @@ use Rattle.zb_types.specs.declared.lines.Job.TheVariants.{Clean, Rebuild}
 use Rattle.zb_types.specs.declared.lines.Line.{Line}
 use Rattle.zb_types.specs.declared.lines.Line.TheVariants.{Call as CallLine, Job as JobLine, Steps, StepTo, Event as EventLine}
 use Rattle.zb_types.specs.Paths.{is_path, are_names}
-use Rattle.zb_claims.specs.Text.{newline, num, byte_text, hex_digit, call_text, node_text, kind_text, plus_text, words, header_text, max_step, is_node, is_actor, is_disk, IsCall, IsLine}
+use Rattle.zb_claims.specs.Text.{newline, num, byte_text, hex_digit, call_text, node_text, kind_text, plus_text, words, header_text, max_step, is_node, IsCall, IsLine}
 use Rattle.zb_claims.specs.Script.{Row, skipped, said, row_text, is_comment, IsRow}
 use Rattle.zb_laws.proofs.Tests.{high, last_true}
 use Rattle.zb_laws.proofs.Clean.{clean, clean-append, clean-decimal}

@@ -8,15 +8,19 @@ use Rattle.zb_claims.specs.Text.{quoted, IsCall}
 use Rattle.zb_script.specs.declared.verbs.Verb.{Verb}
 use Rattle.zb_script.specs.declared.verbs.Verb.TheVariants as verbs
 
+-- the bytes of a valid path
 abbrev pub IsPath : List ℕ → Type 0
 IsPath path = IsTrue (is_path path)
 
+-- a path stands as its bytes
 abbrev pub path_text : List ℕ → List ℕ
 path_text path = path
 
+-- any keyword
 abbrev pub IsVerb : Verb → Type 0
 IsVerb verb = Unit {0}
 
+-- the keyword in letters
 abbrev pub verb_text : Verb → List ℕ
 verb_text verbs.Create = codes "create"
 verb_text verbs.Mkdir = codes "mkdir"

@@ -14,10 +14,12 @@ use Rattle.zb_script.specs.Nodes.{IsByte}
 use Rattle.zb_script.specs.declared.heads.Head.{Head}
 use Rattle.zb_script.specs.declared.heads.Head.TheVariants as heads
 
+-- whether a plus stands first
 abbrev pub begins_with_plus : List ℕ → Bool
 begins_with_plus [] = false
 begins_with_plus (b ∷ bytes) = b == 43
 
+-- whether a line has a plus
 abbrev pub plus_of : Line → Bool
 plus_of (CallLine plus client call) = plus
 plus_of (JobLine plus job) = plus
@@ -37,6 +39,7 @@ body_text (EventLine event) = words (EventLine event)
 abbrev pub IsLineWith : Geometry → Bool → Line → Type 0
 IsLineWith geo plus line = IsLine geo line × (plus_of line ≡ plus)
 
+-- the number of a client's first word is a byte
 abbrev pub IsHead : Head → Type 0
 IsHead (heads.Client i) = IsByte i
 IsHead heads.Rebuild = Unit {0}
@@ -46,6 +49,7 @@ IsHead heads.Arm = Unit {0}
 IsHead heads.Up = Unit {0}
 IsHead heads.Lose = Unit {0}
 
+-- the first word in letters
 abbrev pub head_text : Head → List ℕ
 head_text (heads.Client i) = node_text (Client i)
 head_text heads.Rebuild = codes "rebuild"

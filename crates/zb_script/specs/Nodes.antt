@@ -17,6 +17,7 @@ IsByte n = n < 256
 abbrev pub numbered_text : ℕ → ℕ → List ℕ
 numbered_text letter n = letter ∷ decimal n
 
+-- the number in a node's name is a byte
 abbrev pub IsNamed : Node → Type 0
 IsNamed (Server i) = IsByte i
 IsNamed (Client i) = IsByte i
@@ -24,17 +25,22 @@ IsNamed Manager = Unit {0}
 IsNamed Cleaner = Unit {0}
 IsNamed Mender = Unit {0}
 
+-- a node of the system
 abbrev pub IsMember : Geometry → Node → Type 0
 IsMember geo node = IsTrue (is_node geo node)
 
+-- a node of the system that takes steps
 abbrev pub IsActor : Geometry → Node → Type 0
 IsActor geo node = IsTrue (is_actor geo node)
 
+-- a node of the system that has a disk
 abbrev pub IsDisk : Geometry → Node → Type 0
 IsDisk geo node = IsTrue (is_disk geo node)
 
+-- a server of the system
 abbrev pub IsServer : Geometry → ServerId → Type 0
 IsServer geo server = IsTrue (within 1 geo.servers server.0)
 
+-- any kind of step
 abbrev pub IsKind : Kind → Type 0
 IsKind kind = Unit {0}

@@ -15,5 +15,6 @@ pub record Splits (bytes word rest : List ℕ) : Type 0 where
 abbrev pub IsRest : List ℕ → Type 0
 IsRest rest = Unit {0}
 
+-- some bytes, behind these
 abbrev pub behind_text : List ℕ → List ℕ → List ℕ
 behind_text front rest = front ++ rest

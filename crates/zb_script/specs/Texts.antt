@@ -13,17 +13,19 @@ pub record IsDigitOf (letter d : ℕ) : Type 0 where
 abbrev pub is_plain : ℕ → Bool
 is_plain b = nat_le 32 b && nat_le b 126 && not (b == 34 || b == 92)
 
--- a byte in its spelling, and what follows it
+-- what is a byte, and what follows it
 abbrev pub IsFront : ℕ × List ℕ → Type 0
 IsFront front = front.0 < 256
 
+-- a byte in its spelling, and what follows it
 abbrev pub front_text : ℕ × List ℕ → List ℕ
 front_text front = byte_text front.0 ++ front.1
 
--- the same for a byte that is escaped, behind the backslash
+-- a byte that is escaped, and what follows it
 abbrev pub IsEscaped : ℕ × List ℕ → Type 0
 IsEscaped front = (front.0 < 256) × (is_plain front.0 ≡ false)
 
+-- the two digits of a byte behind their letter, and what follows them
 abbrev pub escape_text : ℕ × List ℕ → List ℕ
 escape_text front = 120 ∷ hex_digit (front.0 / 16) ∷ hex_digit (front.0 % 16) ∷ front.1
 

@@ -1,6 +1,5 @@
-use Rattle.std.proofs.Common.{◌≡◌, ℕ, sym, subst, arith}
-use Rattle.std.proofs.lemmas.Grind.{common_steps}
-use Rattle.zb_log.specs.Placing.{begun, with_meta, AreBlocks}
+use Rattle.std.proofs.Common.{arith}
+use Rattle.zb_log.specs.Placing.{begun, with_meta}
 use Rattle.zb_log.proofs.Steps.{blocks_rise, meta_rises, meta_room}
 use Rattle.zb_log.proofs.laying.lay.Goals as goal
 

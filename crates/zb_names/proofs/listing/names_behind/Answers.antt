@@ -1,68 +1,64 @@
-use Rattle.std.proofs.Common.{◌≡◌, ℕ, [], ◌∷◌, ◌++◌, length, drop, true, false, sym, ap, subst, ◌∙◌}
-use Rattle.std.specs.declared.vec.Vec.{Vec}
-use Rattle.std.specs.declared.alloc.Global.{Global}
-use Rattle.std.specs.List.{AllByRecursion}
-use Rattle.std.specs.List.Sorted.{IsStrictlySortedBy}
-use Rattle.std.specs.Map.{keys_of}
-use Rattle.std.specs.Ordering.{is_le}
-use Rattle.std.proofs.lemmas.List.{append-nil, append_assoc, take_rest}
-use Rattle.std.proofs.lemmas.Map.Keys.{sorted_head, sorted_tail}
-use Rattle.zb_types.specs.Paths.{is_path}
-use Rattle.zb_names.specs.declared.entries.Kept.{Kept}
-use Rattle.zb_names.specs.Shown.{kept_as, shown, begins_with}
-use Rattle.zb_names.specs.Listing.{name_of, names_behind}
-use Rattle.zb_names.specs.Sound.{key_cmp}
-use Rattle.zb_names.proofs.Behind.{none_behind, starts-begins}
-use Rattle.zb_names.proofs.Children.{names_behind-from, names_behind-none, names_behind-cons, rising-from, All-from, le-from}
+use Rattle.std.proofs.Common.{◌≡◌, ℕ, List, ◌++◌, drop, length, true, false, sym, ap, subst, ◌∙◌}
+use Rattle.std.proofs.lemmas.List.{append-nil, append_assoc}
+use Rattle.zb_names.specs.Shown.{shown, begins_with}
+use Rattle.zb_names.specs.Listing.{IsStartBehind, from_front, name_of, names_behind}
+use Rattle.zb_names.proofs.Behind.{starts-begins}
+use Rattle.zb_names.proofs.Skipping.{begins_self, begins_long, begins_next, listing_begins, listing_ends, path_first, further, names_on}
 use Rattle.zb_names.proofs.listing.names_behind.Goals as goal
 
 pub loop-path-init : goal.loop-path-init
 loop-path-init c =
-    let all = c.into_iter-path-iterator.ensures.into_iter_gives ∙ c.range-path-items.ensures.between tt in
     let front = c.args.front.now in
-    let entries = c.args.map.now.entries in
-    rw (all, c.in_ok-names.ensures) (record {
-      so_far = names_behind-from front entries;
-      rising = rising-from front entries c.range-path-items.ensures.ordered;
-      paths = All-from front (λ e. is_path e.0.items ≡ true) entries c.requires.paths;
-      from = le-from front entries;
+    let same = c.in_ok-start.ensures.items ∙ c.deref.ensures.value in
+    rw c.in_ok-names.ensures (record {
+      so_far = listing_begins front c.in_ok-start.start c.args.map.now.entries same;
+      begins = subst (λ (z : List ℕ). begins_with front.items z ≡ true) (sym same) (begins_self front.items);
     })
 
 pub returns-then-not-starts_with : goal.returns-then-not-starts_with
 returns-then-not-starts_with c =
     let front = c.args.front.now in
-    let rest = c.next.new.self in
-    let split = c.in-Some.ensures.steps in
-    let kept : Vec ℕ Global × Kept = (c.in-Some.path.now, c.in-Some.field-0-1.now) in
-    let other : begins_with front.items c.in-Some.path.now.items ≡ false =
-    sym (starts-begins c.in-Some.path.now.items front.items) ∙ rw (← c.deref.ensures.value, ← c.deref-in-loop-path.ensures.value) (sym c.if-not-starts_with.ensures.value) in
-    let rising : IsStrictlySortedBy key_cmp (keys_of (kept ∷ rest)) = subst (λ s. IsStrictlySortedBy key_cmp (keys_of s)) split c.loop-path.invariant.rising in
-    let from : AllByRecursion (λ e. is_le (key_cmp front e.0) ≡ true) (kept ∷ rest) = subst (λ s. AllByRecursion (λ e. is_le (key_cmp front e.0) ≡ true) s) split c.loop-path.invariant.from in
-    let none : AllByRecursion (λ e. begins_with front.items e.0.items ≡ false) (kept ∷ rest) = (other, none_behind front c.in-Some.path.now rest from.0 other (sorted_head key_cmp c.in-Some.path.now (keys_of rest) rising)) in
-    let nothing : names_behind front.items (shown (kept ∷ rest)) ≡ [] = names_behind-none front (kept ∷ rest) none in
-    sym (append-nil c.loop-path.names) ∙ ap (λ more. c.loop-path.names ++ more) (sym (ap (λ s. names_behind front.items (shown s)) split ∙ nothing)) ∙ c.loop-path.invariant.so_far
+    let path = c.in-Some.path.now in
+    let es = c.args.map.now.entries in
+    let first = c.in-Some.ensures.some in
+    let begins : begins_with front.items path.items ≡ false =
+    sym (starts-begins path.items front.items) ∙ rw (← c.deref-in-Some.ensures.value, ← c.deref-in-Some-2.ensures.value) (sym c.if-not-starts_with.ensures.value) in
+    let none = listing_ends front c.loop-path.start path first.kept es first.more c.requires.rising first.split c.loop-path.invariant.begins begins in
+    sym (append-nil c.loop-path.names) ∙ ap (λ z. c.loop-path.names ++ z) (sym none) ∙ c.loop-path.invariant.so_far
+
+pub pass-requires : goal.pass-requires
+pass-requires c =
+    let front = c.args.front.now in
+    let path = c.in-Some.path.now in
+    let begins : begins_with front.items path.items ≡ true =
+    sym (starts-begins path.items front.items) ∙ rw (← c.deref-in-Some.ensures.value, ← c.deref-in-Some-2.ensures.value) (sym c.if-not-starts_with.ensures.value) in
+    rw (c.deref-in-Some-3.ensures.value, c.deref-in-Some-4.ensures.value) (begins_long front.items path.items begins)
+
+pub loop-path-smaller : goal.loop-path-smaller
+loop-path-smaller c =
+    let front = c.args.front.now in
+    let path = c.in-Some.path.now in
+    let es = c.args.map.now.entries in
+    let first = c.in-Some.ensures.some in
+    let begins : begins_with front.items path.items ≡ true =
+    sym (starts-begins path.items front.items) ∙ rw (← c.deref-in-Some.ensures.value, ← c.deref-in-Some-2.ensures.value) (sym c.if-not-starts_with.ensures.value) in
+    let behind : IsStartBehind (length front.items) path.items c.in_ok-start-2.start.items = rw (← c.deref-in-Some-3.ensures.value, ← c.deref-in-Some-4.ensures.value) c.in_ok-start-2.ensures.start in
+    further front c.loop-path.start c.in_ok-start-2.start path first.kept es first.more c.requires.front (path_first c.loop-path.start path first.kept es first.more c.requires.paths first.split) begins c.requires.rising first.split behind
 
 pub loop-path-preserved : goal.loop-path-preserved
 loop-path-preserved c =
     let front = c.args.front.now in
-    let rest = c.next.new.self in
-    let split = c.in-Some.ensures.steps in
-    let kept : Vec ℕ Global × Kept = (c.in-Some.path.now, c.in-Some.field-0-1.now) in
-    let begins : begins_with front.items c.in-Some.path.now.items ≡ true =
-    sym (starts-begins c.in-Some.path.now.items front.items) ∙ rw (← c.deref.ensures.value, ← c.deref-in-loop-path.ensures.value) (sym c.if-not-starts_with.ensures.value) in
-    let rising : IsStrictlySortedBy key_cmp (keys_of (kept ∷ rest)) = subst (λ s. IsStrictlySortedBy key_cmp (keys_of s)) split c.loop-path.invariant.rising in
-    let paths : AllByRecursion (λ e. is_path e.0.items ≡ true) (kept ∷ rest) = subst (λ s. AllByRecursion (λ e. is_path e.0.items ≡ true) s) split c.loop-path.invariant.paths in
-    let from : AllByRecursion (λ e. is_le (key_cmp front e.0) ≡ true) (kept ∷ rest) = subst (λ s. AllByRecursion (λ e. is_le (key_cmp front e.0) ≡ true) s) split c.loop-path.invariant.from in
-    let step = names_behind-cons front.items c.in-Some.path.now.items (kept_as kept.1) (shown rest) c.requires.front paths.0 begins in
-    let pushed : c.push_name.new.names ≡ c.loop-path.names ++ name_of (drop (length front.items) c.in-Some.path.now.items) =
-    c.in_ok-push_name.ensures.ok
-    ∙ ap (λ text. c.loop-path.names ++ name_of text) (take_rest c.deref-in-loop-path-2.result.now c.len.result)
-    ∙ ap (λ text. c.loop-path.names ++ name_of (drop c.len.result text)) c.deref-in-loop-path-2.ensures.value
-    ∙ ap (λ n. c.loop-path.names ++ name_of (drop n c.in-Some.path.now.items)) (c.len.ensures ∙ c.args.front.now.ok.0) in
+    let path = c.in-Some.path.now in
+    let es = c.args.map.now.entries in
+    let first = c.in-Some.ensures.some in
+    let begins : begins_with front.items path.items ≡ true =
+    sym (starts-begins path.items front.items) ∙ rw (← c.deref-in-Some.ensures.value, ← c.deref-in-Some-2.ensures.value) (sym c.if-not-starts_with.ensures.value) in
+    let behind : IsStartBehind (length front.items) path.items c.in_ok-start-2.start.items = rw (← c.deref-in-Some-3.ensures.value, ← c.deref-in-Some-4.ensures.value) c.in_ok-start-2.ensures.start in
+    let pushed : c.pass.new.names ≡ c.loop-path.names ++ name_of (drop (length front.items) path.items) = rw (← c.deref-in-Some-3.ensures.value, ← c.deref-in-Some-4.ensures.value) c.in_ok-start-2.ensures.names in
+    let rest = names_behind front.items (shown (from_front c.in_ok-start-2.start es)) in
+    let on = names_on front c.loop-path.start c.in_ok-start-2.start path first.kept es first.more c.requires.front (path_first c.loop-path.start path first.kept es first.more c.requires.paths first.split) begins c.requires.rising first.split behind in
     record {
-      so_far = ap (λ names. names ++ names_behind front.items (shown rest)) pushed ∙ append_assoc c.loop-path.names (name_of (drop (length front.items) c.in-Some.path.now.items)) (names_behind front.items (shown rest))
-          ∙ ap (λ more. c.loop-path.names ++ more) (sym (ap (λ s. names_behind front.items (shown s)) split ∙ step)) ∙ c.loop-path.invariant.so_far;
-      rising = sorted_tail key_cmp c.in-Some.path.now (keys_of rest) rising;
-      paths = paths.1;
-      from = from.1;
+      so_far = ap (λ z. z ++ rest) pushed ∙ append_assoc c.loop-path.names (name_of (drop (length front.items) path.items)) rest
+          ∙ ap (λ z. c.loop-path.names ++ z) (sym on) ∙ c.loop-path.invariant.so_far;
+      begins = begins_next front.items path.items c.in_ok-start-2.start.items begins behind;
     }

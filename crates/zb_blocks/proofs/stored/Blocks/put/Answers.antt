@@ -1,4 +1,4 @@
-use Rattle.std.proofs.Common.{◌∙◌, None, inr, arith}
+use Rattle.std.proofs.Common.{None, inr, arith}
 use Rattle.zb_types.specs.declared.nodes.Class.TheVariants.{Client}
 use Rattle.zb_holding.specs.Holding.{view_of}
 use Rattle.zb_plain.specs.Standing.{maps_of}

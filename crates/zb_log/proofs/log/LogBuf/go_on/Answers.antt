@@ -1,4 +1,4 @@
-use Rattle.std.proofs.Common.{◌≡◌, None, Some, Option, ap, subst, sym, ◌∙◌}
+use Rattle.std.proofs.Common.{ap, subst, sym, ◌∙◌}
 use Rattle.zb_log.specs.Logs.{SeenLog, IsSound, IsSealed, bytes_with}
 use Rattle.zb_log.proofs.Parting.{sound_with, goes_on_gives}
 use Rattle.zb_log.proofs.log.LogBuf.go_on.Goals as goal

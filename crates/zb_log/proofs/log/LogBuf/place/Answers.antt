@@ -1,4 +1,4 @@
-use Rattle.std.proofs.Common.{◌≡◌, ◌<◌, ◌≤◌, refl, subst, sym, ap, arith}
+use Rattle.std.proofs.Common.{◌≡◌, ◌<◌, refl, subst, sym, ap, arith}
 use Rattle.std.specs.Prelude.{Result, Ok, Err, IsErrAnd, IsErrOf}
 use Rattle.zb_log.specs.declared.placed.Placed.{Placed}
 use Rattle.zb_log.specs.declared.placed.LogFault.{LogFault}

@@ -1,6 +1,6 @@
 use Rattle.std.proofs.Common.{◌≡◌, true, false, refl, sym, subst, ◌∙◌, arith}
 use Rattle.zb_names.specs.Sound.{IsTree}
-use Rattle.zb_names.proofs.Loads.{hang_test, number_test, tree_given, given_rises, given_numbers, given_hangs}
+use Rattle.zb_names.proofs.Loads.{hang_test, tree_given, given_rises, given_numbers, given_hangs}
 use Rattle.zb_names.proofs.table.Names.load.Goals as goal
 use Rattle.zb_names.proofs.table.Names.load.Goals.{then-next-eq0-via-then-next-eq0, then-next-eq0-via-else-next-eq0+then-not-rise}
 

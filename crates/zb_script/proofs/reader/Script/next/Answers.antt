@@ -1,6 +1,5 @@
 use Rattle.std.proofs.Common.{◌≡◌, None, Some, sym, arith}
 use Rattle.std.specs.Prelude.{position}
-use Rattle.std.proofs.lemmas.Bool.Decides.{nat_tests}
 use Rattle.zb_script.proofs.Marks.{is_end}
 use Rattle.zb_script.proofs.NextBytes.{endless, too_far, whole_next, open_line}
 use Rattle.zb_script.proofs.reader.Script.next.Goals as goal

@@ -1,7 +1,6 @@
 //! The plain file tree as a value, and the history of what was done to it: the reference for all other crates.
 #![tactic(auto)]
 
-mod bytes;
 mod past;
 mod plain;
 

@@ -5,14 +5,14 @@ ghost use Rattle.zb_types.specs.Keyed.{look};
 ghost use Rattle.zb_types.specs.Tree.{first_tree, stored};
 ghost use Rattle.zb_types.specs.Apply.{is_update, max_file, applied, reply_to};
 
-use crate::bytes::{part, resized, written};
 use std::alloc::Global;
 use std::collections::BTreeMap;
 use std::marker::Model;
 use zb_names::{Entry, NameFault, Names};
-use zb_types::{ByteList, Call, Fid, Mem, NoMemory, Path, Refusal, Reply};
-
-const MAX_FILE: usize = 67_108_864;
+use zb_types::{
+    ByteList, Call, Fid, MAX_FILE, Mem, NoMemory, Path, Refusal, Reply, bytes_from, bytes_resized,
+    bytes_written,
+};
 
 /// The plain tree, which contracts see as names, and bytes under the numbers of files.
 #[derive(Drop)]
@@ -119,8 +119,8 @@ impl Tree {
         if bytes.len() > MAX_FILE || place + bytes.len() > MAX_FILE {
             return Ok(Reply::Refused(Refusal::TooBig));
         }
-        let new = written(alloc, old.slice(), place, bytes.slice())?;
-        self.files.insert(fid.0, ByteList::of(new))?;
+        let new = bytes_written(alloc, old.slice(), place, bytes.slice())?;
+        self.files.insert(fid.0, new)?;
         Ok(Reply::Done)
     }
 
@@ -135,8 +135,8 @@ impl Tree {
         if length as usize > MAX_FILE {
             return Ok(Reply::Refused(Refusal::TooBig));
         }
-        let new = resized(alloc, old.slice(), length as usize)?;
-        self.files.insert(fid.0, ByteList::of(new))?;
+        let new = bytes_resized(alloc, old.slice(), length as usize)?;
+        self.files.insert(fid.0, new)?;
         Ok(Reply::Done)
     }
 
@@ -146,7 +146,7 @@ impl Tree {
         match self.file(fid) {
             None => Ok(Reply::Refused(Refusal::Gone)),
             Some(bytes) => {
-                let found = part(alloc, bytes.slice(), offset as usize, len as usize)?;
+                let found = bytes_from(alloc, bytes.slice(), offset as usize, len as usize)?;
                 Ok(Reply::Bytes(found))
             }
         }

@@ -1,3 +1,6 @@
 pub mod Exclusives
+pub mod Keys
+pub mod Listed
 pub mod Placings
+pub mod Ruled
 pub mod Shares

@@ -3,3 +3,5 @@ pub mod Exclusive
 pub mod Fragments
 pub mod Holding
 pub mod Carrying
+pub mod Listing
+pub mod Rules

@@ -256,6 +256,16 @@ unfolding IsStrictlySortedBy
 IsRising-from_ordered [] ordered = tt
 IsRising-from_ordered (e ∷ es) ordered = (all_above e.0 es ordered.0, IsRising-from_ordered es ordered.1)
 
+all_less : {A : Type 0} (k : ℕ) (es : List (ℕ × A)) → KeysAbove k es → AllByRecursion (λ q. nat_cmp k q ≡ Less) (keys_of es)
+all_less k [] above = tt
+all_less k (e ∷ es) above = (grind (arith, nat_tests, above.0), all_less k es above.1)
+
+-- rising keys are those of an ordered map
+pub ordered-from_IsRising : {A : Type 0} (es : List (ℕ × A)) → IsRising es → IsStrictlySortedBy nat_cmp (keys_of es)
+unfolding IsStrictlySortedBy
+ordered-from_IsRising [] rising = tt
+ordered-from_IsRising (e ∷ es) rising = (all_less e.0 es rising.0, ordered-from_IsRising es rising.1)
+
 pub lookup-numbers : {A : Type 0} (k : ℕ) (es : List (ℕ × A)) → lookup (is_at (nat_cmp k)) es ≡ look k es
 lookup-numbers k [] = refl
 lookup-numbers k (e ∷ es) = grind (arith, nat_tests, lookup-numbers k es)

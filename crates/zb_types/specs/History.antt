@@ -6,6 +6,7 @@ use Rattle.zb_types.specs.declared.history.Saw.{Saw}
 use Rattle.zb_types.specs.Tree.{Tree, first_tree}
 use Rattle.zb_types.specs.Apply.{applied, reply_to}
 
+-- the tree after these updates of this one
 abbrev pub tree_from : Tree → List Did → Tree
 tree_from tree [] = tree
 tree_from tree (did ∷ dids) = tree_from (applied tree did.call) dids
@@ -19,10 +20,12 @@ abbrev pub AreReplies : Tree → List Did → Type 0
 AreReplies tree [] = Unit {0}
 AreReplies tree (did ∷ dids) = (did.reply ≡ reply_to tree did.call) × AreReplies (applied tree did.call) dids
 
+-- a read's reply is that of the tree after the updates that it saw
 pub record IsSeen (dids : List Did) (saw : Saw) : Type 0 where
   pub early : saw.seen ≤ length dids
   pub reply : saw.reply ≡ reply_to (tree_after (take saw.seen dids)) saw.call
 
+-- each update has the reply of the tree before it, each read that of the tree that it saw
 pub record IsLegal (dids : List Did) (saws : List Saw) : Type 0 where
   pub updates : AreReplies first_tree dids
   pub reads : AllByRecursion (IsSeen dids) saws

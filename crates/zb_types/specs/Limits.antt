@@ -15,6 +15,7 @@ pub record InLimits (servers clients fragment block slots : ℕ) : Type 0 where
   pub slots_low : 8 ≤ slots
   pub space : slots * fragment ≤ 67108864
 
+-- from the low to the high, both included
 abbrev pub within : ℕ → ℕ → ℕ → Bool
 within low high n = nat_le low n && nat_le n high
 
@@ -30,3 +31,7 @@ first_bad servers clients fragment block slots =
     unless (within 256 65536 fragment && nat_lt 0 block && fragment % block == 0) 3 (
     unless (within 64 4096 block) 4 (
     unless (nat_le 8 slots && nat_le (slots * fragment) 67108864) 5 None))))
+
+-- the most calls that a client keeps
+abbrev pub most_kept : ℕ
+most_kept = 8

@@ -21,15 +21,19 @@ pub record Names : Type 0 where
   pub next : ℕ
   pub entries : List (List ℕ × Entry)
 
+-- no names, and the first file gets number 1
 abbrev pub first_names : Names
 first_names = record { next = 1; entries = [] }
 
+-- the most bytes of a path
 abbrev pub max_path : ℕ
 max_path = 1024
 
+-- the most entries of a tree
 abbrev pub max_names : ℕ
 max_names = 4096
 
+-- the last file number, which no file gets
 abbrev pub last_number : ℕ
 last_number = 4294967295
 
@@ -40,6 +44,7 @@ abbrev pub find : List ℕ → List (List ℕ × Entry) → Option Entry
 find path [] = None
 find path (e ∷ es) = if bytes_eq path e.0 then Some e.1 else find path es
 
+-- whether something stands at a path
 abbrev pub has : List ℕ → List (List ℕ × Entry) → Bool
 has path entries = list_any (λ e. bytes_eq path e.0) entries
 
@@ -56,6 +61,7 @@ abbrev pub fronts : List ℕ → List ℕ → List (List ℕ)
 fronts before [] = []
 fronts before (b ∷ rest) = if b == 47 && nat_lt 0 (length before) then before ∷ fronts (before ++ b ∷ []) rest else fronts (before ++ b ∷ []) rest
 
+-- whether a directory was found
 abbrev pub is_dir : Option Entry → Bool
 is_dir None = false
 is_dir (Some directory) = true
@@ -63,14 +69,17 @@ is_dir (Some (numbered number)) = false
 
 -- Refusals: the first of a list that there is.
 
+-- this refusal, where the test holds
 abbrev pub when : Bool → Refusal → Option Refusal
 when test why = if test then Some why else None
 
+-- the first refusal of a list of them
 abbrev pub first : List (Option Refusal) → Option Refusal
 first [] = None
 first (Some why ∷ rest) = Some why
 first (None ∷ rest) = first rest
 
+-- why what was found isn't a directory, where it isn't one
 abbrev pub not_dir : Option Entry → Option Refusal
 not_dir None = Some NoEntry
 not_dir (Some directory) = None
@@ -107,10 +116,12 @@ abbrev pub with_entry : List ℕ → Entry → List (List ℕ × Entry) → List
 with_entry path entry [] = (path, entry) ∷ []
 with_entry path entry (e ∷ es) = if is_lt (slice_cmp nat_cmp e.0 path) then e ∷ with_entry path entry es else (path, entry) ∷ e ∷ es
 
+-- with each of these entries in its place
 abbrev pub with_entries : List (List ℕ × Entry) → List (List ℕ × Entry) → List (List ℕ × Entry)
 with_entries [] entries = entries
 with_entries (new ∷ more) entries = with_entry new.0 new.1 (with_entries more entries)
 
+-- the entries at other paths
 abbrev pub others : List ℕ → List (List ℕ × Entry) → List (List ℕ × Entry)
 others path entries = filter (λ e. not (bytes_eq path e.0)) entries
 
@@ -118,6 +129,7 @@ others path entries = filter (λ e. not (bytes_eq path e.0)) entries
 abbrev pub renamed : List ℕ → List ℕ → List (List ℕ × Entry) → List (List ℕ × Entry)
 renamed path to entries = with_entries (map (λ e. (moved path to e.0, e.1)) (filter (λ e. is_within path e.0) entries)) (filter (λ e. not (is_within path e.0)) entries)
 
+-- what an operation on names that nothing refuses leaves of them
 abbrev pub name_effect : Names → Call → Names
 name_effect names (Create path) = record { next = names.next + 1; entries = with_entry path (numbered names.next) names.entries }
 name_effect names (Mkdir path) = record { next = names.next; entries = with_entry path directory names.entries }
@@ -131,11 +143,13 @@ pub data Change : Type 0 where
   makes : ℕ → Change
   drops : ℕ → Change
 
+-- that a file goes with its entry, where the entry is a file's
 abbrev pub dropped : Option Entry → Change
 dropped None = same
 dropped (Some directory) = same
 dropped (Some (numbered number)) = drops number
 
+-- what an operation on names that nothing refuses does to the files
 abbrev pub name_change : Names → Call → Change
 name_change names (Create path) = makes names.next
 name_change names (Remove path) = dropped (find path names.entries)
@@ -156,5 +170,6 @@ name_in path other = drop (length path + 1) other
 abbrev pub is_child : List ℕ → List ℕ → Bool
 is_child path other = is_below path other && not (list_any (λ b. b == 47) (name_in path other))
 
+-- the names in a directory, in the order of the paths
 abbrev pub names_in : List ℕ → List (List ℕ × Entry) → List (List ℕ)
 names_in path entries = map (λ e. name_in path e.0) (filter (λ e. is_child path e.0) entries)

@@ -6,9 +6,11 @@ use Rattle.std.specs.Coded.{Coded, code_by, coded×, coded_ℕ}
 use Rattle.zb_types.specs.declared.ids.LogId.{LogId}
 use Rattle.zb_types.specs.declared.ids.FragId.{FragId}
 
+-- by the number
 abbrev pub log_cmp : LogId → LogId → Ordering
 log_cmp a b = nat_cmp a.0 b.0
 
+-- a log as its number
 abbrev pub coded_log : Coded LogId
 coded_log = code_by ℕ coded_ℕ (λ a. a.0) (λ n. record { 0 = n }) (λ _. refl)
 
@@ -16,6 +18,7 @@ coded_log = code_by ℕ coded_ℕ (λ a. a.0) (λ n. record { 0 = n }) (λ _. re
 abbrev pub frag_cmp : FragId → FragId → Ordering
 frag_cmp a b = ordering_then (nat_cmp a.log.0 b.log.0) (ordering_then (nat_cmp a.stripe b.stripe) (nat_cmp a.index b.index))
 
+-- a fragment as its three numbers
 abbrev pub coded_frag : Coded FragId
 coded_frag =
     code_by (ℕ × (ℕ × ℕ)) (coded× coded_ℕ (coded× coded_ℕ coded_ℕ))

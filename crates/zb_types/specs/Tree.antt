@@ -11,6 +11,7 @@ pub record Tree : Type 0 where
   pub names : Names
   pub files : List (ℕ × List ℕ)
 
+-- the tree before the first update
 abbrev pub first_tree : Tree
 first_tree = record { names = first_names; files = [] }
 
@@ -20,6 +21,7 @@ files_after fresh same files = files
 files_after fresh (makes number) files = put number fresh files
 files_after fresh (drops number) files = without number files
 
+-- no bytes where nothing was found
 abbrev pub or_none : Option (List ℕ) → List ℕ
 or_none None = []
 or_none (Some bytes) = bytes

@@ -4,7 +4,7 @@ ghost use Rattle.zb_types.specs.Limits.{InLimits, first_bad};
 use thiserror::Error;
 
 /// The sizes of a system, each within its limits.
-#[derive(Clone, Copy, Debug, PartialEq, Eq)]
+#[derive(Clone, Copy, PartialEq, Eq)]
 pub struct Geometry {
     /// How many storage servers, 3 to 16.
     pub servers: u32,

@@ -1,10 +1,12 @@
 //! The plain values that all crates share, and the definitions of the plain file tree.
 #![tactic(auto)]
 
+mod bytes;
 mod calls;
 mod geometry;
 mod history;
 mod ids;
+mod limits;
 mod lines;
 mod lists;
 mod memory;
@@ -12,15 +14,15 @@ mod nodes;
 mod paths;
 mod requests;
 mod tables;
-#[cfg(test)]
-mod tests;
 
+pub use bytes::{bytes_from, bytes_resized, bytes_written};
 pub use calls::{Call, Refusal, Reply};
 pub use geometry::{BadGeometry, Geometry};
 pub use history::{Did, Saw};
 pub use ids::{Fid, FragId, LogId, Piece, Ptr, ServerId};
+pub use limits::{MAX_FILE, MOST_KEPT};
 pub use lines::{Ended, Job, Kind, Line, Mended, Outcome, Pass, Said, Told};
-pub use lists::{ByteList, Copied, FragList, ItemList, LenList};
+pub use lists::{ByteList, Copied, FragList, ItemList, LenList, PieceList};
 pub use memory::{Failed, Mem, NoMemory};
 pub use nodes::{Cause, Class, Event, EventAnswer, Members, Node, State};
 pub use paths::{Name, NameList, Path};

@@ -3,14 +3,14 @@ use crate::ids::{LogId, ServerId};
 use crate::nodes::{Cause, Event, EventAnswer, Node};
 
 /// A job of the cleaner or of the mender.
-#[derive(Clone, Copy, Debug, PartialEq, Eq)]
+#[derive(Clone, Copy, PartialEq, Eq)]
 pub enum Job {
     Clean,
     Rebuild(ServerId),
 }
 
 /// What the next step of a client, the cleaner or the mender is.
-#[derive(Clone, Copy, Debug, PartialEq, Eq)]
+#[derive(Clone, Copy, PartialEq, Eq)]
 pub enum Kind {
     Idle,
     Call,
@@ -51,7 +51,7 @@ pub enum Said {
 }
 
 /// How a pass of the cleaner left its stripe.
-#[derive(Clone, Copy, Debug, PartialEq, Eq)]
+#[derive(Clone, Copy, PartialEq, Eq)]
 pub enum Ended {
     Retired,
     Needed,
@@ -59,7 +59,7 @@ pub enum Ended {
 }
 
 /// What a line of the report says of a pass of the cleaner.
-#[derive(Clone, Copy, Debug, PartialEq, Eq)]
+#[derive(Clone, Copy, PartialEq, Eq)]
 pub enum Pass {
     Nothing,
     Done {
@@ -74,7 +74,7 @@ pub enum Pass {
 }
 
 /// What a line of the report says of a rebuild.
-#[derive(Clone, Copy, Debug, PartialEq, Eq)]
+#[derive(Clone, Copy, PartialEq, Eq)]
 pub enum Mended {
     Copied(u64),
     Another(ServerId),
@@ -84,7 +84,7 @@ pub enum Mended {
 }
 
 /// The event that a line of the report answers. The line of an arm doesn't tell its count.
-#[derive(Clone, Copy, Debug, PartialEq, Eq)]
+#[derive(Clone, Copy, PartialEq, Eq)]
 pub enum Told {
     Crash(Node),
     Arm(Node),

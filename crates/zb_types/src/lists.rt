@@ -1,7 +1,7 @@
 ghost use Rattle.std.specs.Prelude.{◌≡◌, List, [], ◌∷◌, ◌++◌, length, OnOk, OnErr, IfOk, slice_get};
 ghost use Rattle.std.specs.Option.{option_copied};
 
-use crate::ids::FragId;
+use crate::ids::{FragId, Piece};
 use crate::memory::{Mem, NoMemory};
 use std::alloc::Global;
 use std::marker::Model;
@@ -31,6 +31,12 @@ impl Copied for FragId {
     }
 }
 
+impl Copied for Piece {
+    fn copy_all(alloc: Global, items: &[Piece]) -> Mem<Vec<Piece>> {
+        Ok(Vec::from_slice(alloc, items)?)
+    }
+}
+
 /// Items, which contracts see as a list.
 #[derive(Drop)]
 pub struct ItemList<T> {
@@ -45,6 +51,9 @@ pub type LenList = ItemList<u32>;
 
 /// Names of fragments.
 pub type FragList = ItemList<FragId>;
+
+/// The pieces of a batch, in the order in which its bytes lie in them.
+pub type PieceList = ItemList<Piece>;
 
 impl<T> Model for ItemList<T> {
     ghost Value = { List T };

@@ -1,7 +1,7 @@
 use crate::ids::ServerId;
 
 /// A node of the system.
-#[derive(Clone, Copy, Debug, PartialEq, Eq)]
+#[derive(Clone, Copy, PartialEq, Eq)]
 pub enum Node {
     Server(u8),
     Client(u8),
@@ -11,7 +11,7 @@ pub enum Node {
 }
 
 /// Whether all servers take part, or which one doesn't.
-#[derive(Clone, Copy, Debug, PartialEq, Eq)]
+#[derive(Clone, Copy, PartialEq, Eq)]
 pub enum State {
     Whole,
     Out(ServerId),
@@ -19,21 +19,21 @@ pub enum State {
 }
 
 /// Membership with its generation, from 1.
-#[derive(Clone, Copy, Debug, PartialEq, Eq)]
+#[derive(Clone, Copy, PartialEq, Eq)]
 pub struct Members {
     pub state: State,
     pub generation: u64,
 }
 
 /// Who asks for a slot: a client leaves some free for the cleaner and the mender.
-#[derive(Clone, Copy, Debug, PartialEq, Eq)]
+#[derive(Clone, Copy, PartialEq, Eq)]
 pub enum Class {
     Client,
     Cleaner,
 }
 
 /// Why a call or a job can't go on.
-#[derive(Clone, Copy, Debug, PartialEq, Eq)]
+#[derive(Clone, Copy, PartialEq, Eq)]
 pub enum Cause {
     Unreachable { a: ServerId, b: ServerId },
     Down,
@@ -41,7 +41,7 @@ pub enum Cause {
 }
 
 /// What befalls a node, or is asked of the whole system.
-#[derive(Clone, Copy, Debug, PartialEq, Eq)]
+#[derive(Clone, Copy, PartialEq, Eq)]
 pub enum Event {
     Crash(Node),
     /// The platter of a server or of the file manager stops at its write with this number, from 1.
@@ -52,7 +52,7 @@ pub enum Event {
 }
 
 /// What an event came to.
-#[derive(Clone, Copy, Debug, PartialEq, Eq)]
+#[derive(Clone, Copy, PartialEq, Eq)]
 pub enum EventAnswer {
     Done,
     Down(Node),

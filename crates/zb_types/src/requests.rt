@@ -1,6 +1,10 @@
+ghost use Rattle.std.specs.Prelude.{◌≡◌, IfOk};
+
 use crate::ids::FragId;
 use crate::lists::{ByteList, FragList, LenList};
+use crate::memory::{Mem, NoMemory};
 use crate::nodes::Class;
+use std::alloc::Global;
 use thiserror::Error;
 
 /// What is asked of a storage server.
@@ -71,4 +75,63 @@ pub enum Response {
     Refused(StoreFault),
     Down,
     Blank,
+}
+
+impl Request {
+    pub fn copy(&self, alloc: Global) -> Mem<Request>
+        ensures { IfOk result (λ request. request ≡ self.now) }
+    {
+        Ok(match self {
+            Request::Store { id, bytes, class } => Request::Store {
+                id: *id,
+                bytes: bytes.copy(alloc)?,
+                class: *class,
+            },
+            Request::Append { id, place, bytes } => Request::Append {
+                id: *id,
+                place: *place,
+                bytes: bytes.copy(alloc)?,
+            },
+            Request::Parity {
+                id,
+                lengths,
+                bytes,
+                class,
+            } => Request::Parity {
+                id: *id,
+                lengths: lengths.copy(alloc)?,
+                bytes: bytes.copy(alloc)?,
+                class: *class,
+            },
+            Request::Retrieve { id, place, len } => Request::Retrieve {
+                id: *id,
+                place: *place,
+                len: *len,
+            },
+            Request::Delete { id } => Request::Delete { id: *id },
+            Request::Identify { after } => Request::Identify { after: *after },
+            Request::Fence { generation } => Request::Fence {
+                generation: *generation,
+            },
+        })
+    }
+}
+
+impl Response {
+    pub fn copy(&self, alloc: Global) -> Mem<Response>
+        ensures { IfOk result (λ response. response ≡ self.now) }
+    {
+        Ok(match self {
+            Response::Done => Response::Done,
+            Response::Bytes(bytes) => Response::Bytes(bytes.copy(alloc)?),
+            Response::Parity { lengths, bytes } => Response::Parity {
+                lengths: lengths.copy(alloc)?,
+                bytes: bytes.copy(alloc)?,
+            },
+            Response::Ids(names) => Response::Ids(names.copy(alloc)?),
+            Response::Refused(why) => Response::Refused(*why),
+            Response::Down => Response::Down,
+            Response::Blank => Response::Blank,
+        })
+    }
 }

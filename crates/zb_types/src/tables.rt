@@ -7,7 +7,7 @@ use std::alloc::Global;
 use thiserror::Error;
 
 /// What stands at a path of the tree; a file with its length in bytes.
-#[derive(Clone, Copy, Debug, PartialEq, Eq)]
+#[derive(Clone, Copy, PartialEq, Eq)]
 pub enum Listed {
     Dir,
     File { fid: Fid, length: u32 },
@@ -36,7 +36,7 @@ pub struct Found {
 }
 
 /// A log: whether it lives, its last committed stripe, and the number of its last committed batch, 0 for none.
-#[derive(Clone, Copy, Debug, PartialEq, Eq)]
+#[derive(Clone, Copy, PartialEq, Eq)]
 pub struct LogUse {
     pub log: LogId,
     pub live: bool,
@@ -48,7 +48,7 @@ pub struct LogUse {
 pub type LogUseList = ItemList<LogUse>;
 
 /// A held stripe, its committed end in bytes, and the number of the first journal entry that names it.
-#[derive(Clone, Copy, Debug, PartialEq, Eq)]
+#[derive(Clone, Copy, PartialEq, Eq)]
 pub struct HeldUse {
     pub log: LogId,
     pub stripe: u64,

@@ -15,7 +15,7 @@ use zb_types::{Geometry, Mem, NoMemory};
 const PIECE: usize = 4_096;
 
 /// What the first line of a script is that says something.
-#[derive(Clone, Copy, Debug, PartialEq, Eq)]
+#[derive(Clone, Copy, PartialEq, Eq)]
 pub enum Heading {
     /// The header of a system that the program runs.
     System(Geometry),
@@ -41,7 +41,7 @@ fn fill<O: Outside + Drop>(alloc: Global, source: &mut Source, out: &mut O) -> R
 }
 
 // What comes next where no header was read.
-#[derive(Clone, Copy, Debug, PartialEq, Eq)]
+#[derive(Clone, Copy, PartialEq, Eq)]
 enum Head {
     Skipped { len: usize },
     Header { geo: Geometry, len: usize },

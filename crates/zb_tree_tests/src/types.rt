@@ -1,6 +1,10 @@
-use super::*;
 use std::alloc::Global;
 use std::test::Fail;
+use zb_types::{
+    ByteList, Call, Class, Copied, Fid, FragId, FragList, HeldUse, ItemList, LenList, Listed,
+    LogId, LogUse, Mem, Name, NameList, Path, Piece, Ptr, Refusal, Reply, Request, Response,
+    StoreFault, TreeEntry, bytes_from, bytes_resized, bytes_written,
+};
 
 const PTR: Ptr = Ptr {
     log: LogId(1),

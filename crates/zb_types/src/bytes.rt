@@ -1,8 +1,9 @@
 ghost use Rattle.std.specs.Prelude.{◌≡◌, ◌+◌, ◌<◌, ◌^◌, length, take, drop, slice_index, max, IfOk};
 ghost use Rattle.zb_types.specs.Bytes.{byte_over, written, resized};
 
+use crate::lists::ByteList;
+use crate::memory::{Mem, NoMemory};
 use std::alloc::{AllocError, Global};
-use zb_types::{ByteList, Mem};
 
 // The byte at this place, zero past the end.
 fn byte_at(bytes: &[u8], i: usize) -> u8
@@ -21,13 +22,7 @@ fn byte_over(old: &[u8], offset: usize, bytes: &[u8], i: usize) -> u8
     byte_at(old, i)
 }
 
-// The old bytes with these over them from the offset on, after zeros where there is a gap.
-pub(crate) fn written(
-    alloc: Global,
-    old: &[u8],
-    offset: usize,
-    bytes: &[u8],
-) -> Result<Vec<u8>, AllocError>
+fn written(alloc: Global, old: &[u8], offset: usize, bytes: &[u8]) -> Result<Vec<u8>, AllocError>
     requires { offset + length bytes.now < 2 ^ 63 }
     ensures { IfOk result (λ all. all.items ≡ written old.now offset bytes.now) }
 {
@@ -37,15 +32,29 @@ pub(crate) fn written(
         .collect(alloc)
 }
 
-// So many of the bytes, with zeros behind them where they are fewer.
-pub(crate) fn resized(alloc: Global, old: &[u8], n: usize) -> Result<Vec<u8>, AllocError>
+fn resized(alloc: Global, old: &[u8], n: usize) -> Result<Vec<u8>, AllocError>
     ensures { IfOk result (λ all. all.items ≡ resized old.now n) }
 {
     (0..n).map(|i| byte_at(old, i)).collect(alloc)
 }
 
-// At most so many bytes from the offset on.
-pub(crate) fn part(alloc: Global, bytes: &[u8], offset: usize, len: usize) -> Mem<ByteList>
+/// The old bytes with these over them from byte `offset` on, after zeros where there is a gap.
+pub fn bytes_written(alloc: Global, old: &[u8], offset: usize, bytes: &[u8]) -> Mem<ByteList>
+    requires { offset + length bytes.now < 2 ^ 63 }
+    ensures { IfOk result (λ all. all ≡ written old.now offset bytes.now) }
+{
+    Ok(ByteList::of(written(alloc, old, offset, bytes)?))
+}
+
+/// The first `n` of the bytes, with zeros behind them where they are fewer.
+pub fn bytes_resized(alloc: Global, old: &[u8], n: usize) -> Mem<ByteList>
+    ensures { IfOk result (λ all. all ≡ resized old.now n) }
+{
+    Ok(ByteList::of(resized(alloc, old, n)?))
+}
+
+/// The bytes from byte `offset` on, at most `len` of them.
+pub fn bytes_from(alloc: Global, bytes: &[u8], offset: usize, len: usize) -> Mem<ByteList>
     ensures { IfOk result (λ list. list ≡ take len (drop offset bytes.now)) }
 {
     let (_, rest) = bytes.split_at(offset.min(bytes.len()));

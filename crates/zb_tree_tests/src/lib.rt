@@ -1,0 +1,5 @@
+//! Tests of the plain values, the names and the plain tree as a value.
+#![tactic(auto)]
+
+#[cfg(test)]
+mod types;

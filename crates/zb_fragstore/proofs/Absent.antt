@@ -7,7 +7,7 @@ use Rattle.zb_index.specs.declared.spot.Spot.{Spot}
 use Rattle.zb_index.specs.Seen.{spot_of}
 use Rattle.zb_index.specs.Laws.{IsHeldAt}
 use Rattle.zb_index.proofs.Held.{not_found, is_found}
-use Rattle.zb_platter.specs.Tidy.{slots_in}
+use Rattle.zb_slots.specs.Slots.{slots_in}
 use Rattle.zb_fragstore.specs.Seen.{SeenStore, is_there}
 use Rattle.zb_fragstore.specs.Changing.{map_in, IsOpen}
 

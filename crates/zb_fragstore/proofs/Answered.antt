@@ -10,19 +10,20 @@ use Rattle.zb_types.specs.declared.requests.StoreFault.TheVariants.{Stopped, Off
 use Rattle.zb_holding.specs.Fragments.{Fragment, share_fragment, parity_fragment}
 use Rattle.zb_slots.specs.Slots.{Stored, full_slot}
 use Rattle.zb_slots.specs.Holding.{fragment_of}
-use Rattle.zb_slot.specs.Filling.{body_of}
-use Rattle.zb_slot_read.specs.Reading.{LeftAlone}
-use Rattle.zb_slot_read.specs.Standing.{stand_at}
+use Rattle.zb_slots.specs.Filling.{body_of}
+use Rattle.zb_slots.specs.Reading.{LeftAlone}
+use Rattle.zb_holding.specs.Rules.{stand_at}
 use Rattle.zb_index.specs.declared.spot.Spot.{Spot}
 use Rattle.zb_index.specs.Indexed.{size_of}
 use Rattle.zb_index.specs.Laws.{IsHeldAt}
 use Rattle.zb_index.specs.Seen.{spot_of}
-use Rattle.zb_platter.specs.Tidy.{slots_in}
+use Rattle.zb_slots.specs.Slots.{slots_in}
 use Rattle.zb_fragstore.specs.Seen.{SeenStore}
 use Rattle.zb_fragstore.specs.Answers.{or_stopped}
-use Rattle.zb_fragstore.specs.Refusing.{is_share}
+use Rattle.zb_fragstore.specs.Seen.{is_share}
 use Rattle.zb_fragstore.specs.Changing.{IsOpen, CarriesOut, map_in}
-use Rattle.zb_fragstore.specs.Appending.{refusal_to_append, IsAnswered}
+use Rattle.zb_holding.specs.Rules.{refusal_to_append}
+use Rattle.zb_fragstore.specs.Appending.{IsAnswered}
 use Rattle.zb_fragstore.proofs.Absent.{held_at}
 use Rattle.zb_fragstore.proofs.Appended.{stand_already, go_to_end, go_elsewhere, go_to_parity, left_still}
 use Rattle.zb_fragstore.proofs.Found.{ShareAt, ParityAt, share_at, parity_at}

@@ -15,19 +15,22 @@ use Rattle.zb_types.specs.declared.requests.StoreFault.{StoreFault}
 use Rattle.zb_types.specs.declared.requests.StoreFault.TheVariants.{Offset}
 use Rattle.zb_holding.specs.Fragments.{Fragment, share_fragment, parity_fragment}
 use Rattle.zb_holding.specs.Carrying.{same_frag, stands_after, appended}
-use Rattle.zb_platter.proofs.Names.{one_name}
-use Rattle.zb_slot.specs.Changing.{share_slot}
-use Rattle.zb_slot.specs.Filling.{body_of}
-use Rattle.zb_slot_read.specs.Standing.{stand_at}
+use Rattle.zb_slot_map.proofs.Names.{one_name}
+use Rattle.zb_slots.specs.Changing.{share_slot}
+use Rattle.zb_slots.specs.Filling.{body_of}
+use Rattle.zb_holding.specs.Rules.{stand_at}
 use Rattle.zb_index.specs.declared.spot.Spot.{Spot}
 use Rattle.zb_index.specs.Seen.{spot_of}
-use Rattle.zb_platter.specs.Tidy.{slots_in, map_of, put}
-use Rattle.zb_platter.specs.Changing.{IsKept, MapTold}
+use Rattle.zb_slots.specs.Slots.{slots_in}
+use Rattle.zb_slots.specs.Holding.{map_of}
+use Rattle.zb_slot_map.specs.Tidy.{put}
+use Rattle.zb_slot_map.specs.Changing.{IsKept, MapTold}
 use Rattle.zb_fragstore.specs.Seen.{SeenStore}
 use Rattle.zb_fragstore.specs.Answers.{or_stopped}
-use Rattle.zb_fragstore.specs.Refusing.{is_share}
-use Rattle.zb_fragstore.specs.Changing.{IsOpen, CarriesOut, map_after}
-use Rattle.zb_fragstore.specs.Appending.{refusal_to_append}
+use Rattle.zb_fragstore.specs.Seen.{is_share}
+use Rattle.zb_holding.specs.Rules.{map_after}
+use Rattle.zb_fragstore.specs.Changing.{IsOpen, CarriesOut}
+use Rattle.zb_holding.specs.Rules.{refusal_to_append}
 use Rattle.zb_fragstore.specs.Taking.{Lengthens}
 use Rattle.zb_fragstore.proofs.Carried.{carried}
 use Rattle.zb_fragstore.proofs.Found.{ShareAt, share_at}

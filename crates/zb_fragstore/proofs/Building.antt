@@ -3,13 +3,13 @@ use Rattle.std.proofs.Common.{◌≡◌, ℕ, List, length, Result, Ok, Err, IfO
 use Rattle.zb_types.specs.declared.geometry.Geometry.{Geometry}
 use Rattle.zb_slots.specs.declared.header.Header.{Header}
 use Rattle.zb_slots.specs.Slots.{Slot}
-use Rattle.zb_slot_read.specs.Showing.{AreShown}
+use Rattle.zb_slots.specs.Showing.{AreShown}
 use Rattle.zb_index.specs.declared.build.Built.{Built}
 use Rattle.zb_index.specs.Indexed.{IsIndexOf}
 use Rattle.zb_index.specs.Seen.{SeenIndex}
-use Rattle.zb_index.specs.Shown.{AreShownBy}
+use Rattle.zb_slots.specs.Shown.{AreShownBy}
 use Rattle.zb_index.specs.Twins.{NoneIsBad, AreOlder, AreFreed}
-use Rattle.zb_platter.specs.Tidy.{slots_in}
+use Rattle.zb_slots.specs.Slots.{slots_in}
 use Rattle.zb_fragstore.specs.declared.faults.OpenFault.{OpenFault}
 use Rattle.zb_fragstore.specs.Opening.{IsBuilt, TellsSlots}
 

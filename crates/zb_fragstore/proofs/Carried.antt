@@ -12,11 +12,15 @@ use Rattle.zb_types.specs.declared.requests.StoreFault.{StoreFault}
 use Rattle.zb_holding.specs.Fragments.{Fragment}
 use Rattle.zb_index.specs.Indexed.{IsIndexOf}
 use Rattle.zb_index.specs.Seen.{SeenIndex}
-use Rattle.zb_platter.specs.Tidy.{slots_in, map_of, IsTidy}
-use Rattle.zb_platter.specs.Changing.{FormerOrNext}
+use Rattle.zb_slots.specs.Slots.{slots_in}
+use Rattle.zb_slots.specs.Holding.{map_of}
+use Rattle.zb_slot_map.specs.Tidy.{IsTidy}
+use Rattle.zb_slot_map.specs.Changing.{FormerOrNext}
 use Rattle.zb_fragstore.specs.Seen.{SeenStore}
 use Rattle.zb_fragstore.specs.Answers.{or_stopped}
-use Rattle.zb_fragstore.specs.Changing.{map_in, map_after, IsOpen, CarriesOut}
+use Rattle.zb_holding.specs.Rules.{map_after}
+use Rattle.zb_fragstore.specs.Changing.{map_in, IsOpen, IsBetween, CarriesOut}
+use Rattle.zb_fragstore.proofs.Between.{between_next}
 
 -- the next map by another name
 pub next_as : {geo : Geometry} {next other : FragId → Option Fragment} {old new : List ℕ} → ((id : FragId) → next id ≡ other id) → FormerOrNext geo next old new → FormerOrNext geo other old new
@@ -39,8 +43,8 @@ pub carried : {T : Type 0} (request : Request) (old new : SeenStore) (next : Fra
     → CarriesOut request old new result a b
 carried {T = T} request old new next r result a b is rest was same run settled done = subst (λ x. CarriesOut request old new x a b) (sym is) (by_case r settled done)
   where
-    wide : Run old.server.0 (FormerOrNext old.geo (map_after request (map_in old a.now)) (a.now.seen old.server.0)) a b
-    wide = weaker_run run (λ image h. next_as same h)
+    wide : Run old.server.0 (IsBetween old request (a.now.seen old.server.0)) a b
+    wide = weaker_run run (λ image h. between_next old (a.now.seen old.server.0) was.super request image (next_as same h))
 
     still_open : IsSettled old.server.0 b.now → IsNext old.geo next new.index (a.now.seen old.server.0) (b.now.seen old.server.0) → IsOpen new b.now
     still_open settles is_next = subst (λ store. IsOpen store b.now) (sym rest) (record {

@@ -8,8 +8,8 @@ use Rattle.zb_types.specs.declared.ids.ServerId.{ServerId}
 use Rattle.zb_slots.specs.Slots.{Slot, free_slot}
 use Rattle.zb_index.specs.Indexed.{IsIndexOf}
 use Rattle.zb_index.specs.Seen.{SeenIndex}
-use Rattle.zb_platter.specs.Tidy.{slots_in}
-use Rattle.zb_platter.specs.Super.{super_text, FormatTold}
+use Rattle.zb_slots.specs.Slots.{slots_in}
+use Rattle.zb_slot_map.specs.Super.{super_text, FormatTold}
 use Rattle.zb_fragstore.specs.Answers.{or_stopped}
 use Rattle.zb_fragstore.specs.Changing.{IsOpen}
 

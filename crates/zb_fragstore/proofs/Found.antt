@@ -10,16 +10,18 @@ use Rattle.zb_slots.specs.declared.header.Header.{Header}
 use Rattle.zb_slots.specs.declared.header.Header.TheVariants.{Free, Share, Parity}
 use Rattle.zb_slots.specs.Slots.{Stored, full_slot, shown, header_in, numbers_at, slot_place}
 use Rattle.zb_slots.specs.Holding.{fragment_of}
-use Rattle.zb_slot.specs.Changing.{share_slot, parity_slot}
-use Rattle.zb_slot.proofs.Saying.{Stands, header_stands}
+use Rattle.zb_slots.specs.Changing.{share_slot, parity_slot}
+use Rattle.zb_slots.proofs.Saying.{Stands, header_stands}
+use Rattle.zb_slots.proofs.Bodies.{length-numbers}
 use Rattle.zb_index.specs.declared.spot.Spot.{Spot}
 use Rattle.zb_index.specs.Indexed.{size_of}
 use Rattle.zb_index.specs.Laws.{IsHeldAt}
 use Rattle.zb_index.specs.Seen.{spot_of}
-use Rattle.zb_platter.specs.Tidy.{slots_in, map_of}
-use Rattle.zb_platter.proofs.Knowing.{same_stored}
+use Rattle.zb_slots.specs.Slots.{slots_in}
+use Rattle.zb_slots.specs.Holding.{map_of}
+use Rattle.zb_slot_map.proofs.Knowing.{same_stored}
 use Rattle.zb_fragstore.specs.Seen.{SeenStore}
-use Rattle.zb_fragstore.specs.Refusing.{is_share}
+use Rattle.zb_fragstore.specs.Seen.{is_share}
 use Rattle.zb_fragstore.specs.Changing.{IsOpen}
 use Rattle.zb_fragstore.proofs.Absent.{held_at}
 
@@ -37,6 +39,7 @@ record AsShare (n : ℕ) (stored : Stored) : Type 0 where
 record AsParity (n : ℕ) (stored : Stored) : Type 0 where
   last : stored.id.index + 1 ≡ n
   lengths : List ℕ
+  count : length lengths ≡ n - 1
   bytes : List ℕ
   is : stored ≡ parity_stored stored.id stored.turn lengths bytes
 
@@ -49,7 +52,7 @@ kind_shown n f byte (Some (Share id len)) stands stored e =
     (record { below = stands.0; bytes = window byte 192 len; is = refl }))
 kind_shown n f byte (Some (Parity id turn len)) stands stored e =
     inr (subst (AsParity n) (same_stored (parity_stored id turn (numbers_at byte 128 (n - 1)) (window byte 192 len)) stored e)
-    (record { last = stands.0; lengths = numbers_at byte 128 (n - 1); bytes = window byte 192 len; is = refl }))
+    (record { last = stands.0; lengths = numbers_at byte 128 (n - 1); count = length-numbers byte 128 (n - 1); bytes = window byte 192 len; is = refl }))
 
 kind : (geo : Geometry) (image : List ℕ) (slot : ℕ) (stored : Stored) → slots_in geo image slot ≡ full_slot stored → AsShare geo.servers stored ⊎ AsParity geo.servers stored
 kind geo image slot stored e =
@@ -67,6 +70,7 @@ pub record ShareAt (geo : Geometry) (image : List ℕ) (id : FragId) (spot : Spo
 -- a parity stands at this spot
 pub record ParityAt (geo : Geometry) (image : List ℕ) (id : FragId) (spot : Spot) : Type 0 where
   pub lengths : List ℕ
+  pub count : length lengths ≡ geo.servers - 1
   pub stands : List ℕ
   pub len : length stands ≡ spot.len
   pub slot : slots_in geo image spot.slot ≡ parity_slot id spot.turn lengths stands
@@ -108,6 +112,7 @@ module _ (store : SeenStore) (s : Standing) (id : FragId) (spot : Spot) (is_open
       h.is ∙ ap (λ (x : FragId). parity_stored x here.stored.turn h.lengths h.bytes) here.name ∙ ap (λ (t : ℕ). parity_stored id t h.lengths h.bytes) turn_here in
       record {
         lengths = h.lengths;
+        count = h.count;
         stands = h.bytes;
         len = sym (ap (λ (x : Spot). x.len) here.is ∙ ap (λ (x : Stored). size_of x.fragment) e);
         slot = here.full ∙ ap full_slot e;

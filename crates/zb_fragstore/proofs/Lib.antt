@@ -1,3 +1,4 @@
+pub mod Between
 pub mod Absent
 pub mod Carried
 pub mod Fences
@@ -15,3 +16,4 @@ pub mod Looked
 pub mod Appended
 pub mod Taken
 pub mod Answered
+pub mod Outlined

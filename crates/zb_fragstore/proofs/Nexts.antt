@@ -6,9 +6,9 @@ use Rattle.zb_types.specs.declared.requests.Request.{Request}
 use Rattle.zb_types.specs.declared.requests.Request.TheVariants as ask
 use Rattle.zb_holding.specs.Fragments.{Fragment, share_fragment, parity_fragment}
 use Rattle.zb_holding.specs.Carrying.{same_frag, stands_after, appended}
-use Rattle.zb_platter.specs.Tidy.{put}
-use Rattle.zb_platter.proofs.Names.{one_name}
-use Rattle.zb_fragstore.specs.Changing.{map_after}
+use Rattle.zb_slot_map.specs.Tidy.{put}
+use Rattle.zb_slot_map.proofs.Names.{one_name}
+use Rattle.zb_holding.specs.Rules.{map_after}
 
 -- a map in which a name stands for what a request leaves under it
 put_next : (id q : FragId) (request : Request) (fragment : Option Fragment) (map : FragId → Option Fragment) → fragment ≡ stands_after request (map id) → (b : Bool) → same_frag id q ≡ b

@@ -6,14 +6,17 @@ use Rattle.zb_outside.proofs.Runs.{then_run, weaker_run}
 use Rattle.zb_cell.specs.Cell.{value}
 use Rattle.zb_types.specs.declared.geometry.Geometry.{Geometry}
 use Rattle.zb_types.specs.declared.ids.ServerId.{ServerId}
-use Rattle.zb_slot_read.specs.Reading.{LeftAlone}
-use Rattle.zb_slot_read.proofs.Leaving.{left_by_held, left_then, still_settled}
+use Rattle.zb_slots.specs.Reading.{LeftAlone}
+use Rattle.zb_slots.proofs.Leaving.{left_by_held, left_then, still_settled}
 use Rattle.zb_index.specs.Seen.{SeenIndex}
-use Rattle.zb_platter.specs.Tidy.{slots_in, map_of, IsLarge, IsSound}
-use Rattle.zb_platter.specs.Super.{super_text, IsOf}
-use Rattle.zb_twins.specs.Freeing.{HasOlder, StaysSame, HasFreed, FreeTold}
+use Rattle.zb_slots.specs.Slots.{slots_in}
+use Rattle.zb_slots.specs.Holding.{map_of, IsLarge}
+use Rattle.zb_slot_map.specs.Tidy.{IsSound}
+use Rattle.zb_slot_map.specs.Super.{super_text, IsOf}
+use Rattle.zb_slot_map.specs.Freeing.{HasOlder, StaysSame, HasFreed, FreeTold}
 use Rattle.zb_fragstore.specs.Seen.{SeenStore}
-use Rattle.zb_fragstore.specs.Opening.{IsGood, IsUnfit, IsFoundFirst, StaysWhole, IsOpened, IsBuilt, TellsSlots}
+use Rattle.zb_fragstore.specs.Images.{HasFence}
+use Rattle.zb_fragstore.specs.Opening.{IsGood, IsOwn, IsUnfit, StaysWhole, IsOpened, IsBuilt, TellsSlots}
 use Rattle.zb_fragstore.specs.declared.faults.OpenFault.{OpenFault}
 use Rattle.zb_fragstore.specs.declared.faults.OpenFault.TheVariants.{Blank, Damaged, NoMemory, Stopped}
 
@@ -31,22 +34,12 @@ super_found : (geo : Geometry) (n fence : ℕ) (v : Option (List ℕ)) → IsOf 
 super_found geo n fence None h = absurd h
 super_found geo n fence (Some payload) h = ap (λ (l : List ℕ). Some l) h
 
-not_none : (geo : Geometry) (n fence : ℕ) (v : Option (List ℕ)) → fence < 2 ^ 64 → IsOf geo n v (Some fence) → IsOf geo n v None → ⊥
-not_none geo n fence None fits h none = h
-not_none geo n fence (Some payload) fits h none = none fence fits h
-
 -- why the slots found give no index
-tells_unfit : (geo : Geometry) (server : ServerId) (image : List ℕ) (fault : OpenFault) → TellsSlots (slots_in geo image) geo.slots fault → IsUnfit geo server image fault
-tells_unfit geo server image Blank h = absurd h
-tells_unfit geo server image (Damaged slot) h = h
-tells_unfit geo server image NoMemory h = tt
-tells_unfit geo server image Stopped h = tt
-
-found_first : (geo : Geometry) (server : ServerId) (image : List ℕ) (fence : ℕ) → fence < 2 ^ 64 → IsOf geo server.0 (value image 0) (Some fence) → (fault : OpenFault) → IsFoundFirst geo server image fault
-found_first geo server image fence fits found Blank = tt
-found_first geo server image fence fits found (Damaged slot) = not_none geo server.0 fence (value image 0) fits found
-found_first geo server image fence fits found NoMemory = tt
-found_first geo server image fence fits found Stopped = tt
+tells_unfit : (geo : Geometry) (server : ServerId) (image : List ℕ) (fault : OpenFault) → IsOwn geo server image → TellsSlots (slots_in geo image) geo.slots fault → IsUnfit geo server image fault
+tells_unfit geo server image Blank own h = absurd h
+tells_unfit geo server image (Damaged slot) own h = (own, h)
+tells_unfit geo server image NoMemory own h = own
+tells_unfit geo server image Stopped own h = tt
 
 -- a call that held the platter
 pub held_run : (geo : Geometry) (p : ℕ) (a b : Meaning) → IsSettled p a.now → Held p a b → Run p (StaysWhole geo (a.now.seen p)) a b
@@ -56,6 +49,11 @@ held_run geo p a b settled held = looked geo p a b settled (left_by_held held)
 pub passed : {T E : Type 0} (P : E → Type 0) (r : Result T E) (e : E) → IsErrAnd r (λ x. x ≡ e) → P e → IfErr r P
 passed P (Ok x) e is h = tt
 passed P (Err x) e is h = subst P (sym is) h
+
+-- what holds of each error
+pub on_err : {T E : Type 0} {P : E → Type 0} (r : Result T E) → ((e : E) → P e) → IfErr r P
+on_err (Ok x) h = tt
+on_err (Err e) h = h e
 
 -- the super cell is found first, and the platter is looked at
 module _ (geo : Geometry) (server : ServerId) (fence p : ℕ) (a b : Meaning) (held : Held server.0 a b) (found : IsOf geo server.0 (value (a.now.seen server.0) 0) (Some fence)) (p_is : p ≡ server.0) where
@@ -67,10 +65,10 @@ module _ (geo : Geometry) (server : ServerId) (fence p : ℕ) (a b : Meaning) (h
 
   -- and the slots tell why there is no index
   pub unfit_by : (fault : OpenFault) → TellsSlots (slots_in geo (b.now.seen p)) geo.slots fault → IsUnfit geo server image fault
-  unfit_by fault tells = tells_unfit geo server image fault (subst (λ (i : List ℕ). TellsSlots (slots_in geo i) geo.slots fault) same_seen tells)
+  unfit_by fault tells = tells_unfit geo server image fault (fence, super_found geo server.0 fence (value image 0) found) (subst (λ (i : List ℕ). TellsSlots (slots_in geo i) geo.slots fault) same_seen tells)
 
-  pub first_by : fence < 2 ^ 64 → (fault : OpenFault) → IsFoundFirst geo server image fault
-  first_by fits fault = found_first geo server image fence fits found fault
+  pub left_alone : (c : Meaning) → LeftAlone p b c → LeftAlone server.0 a c
+  left_alone c alone = left_then (left_by_held held) (subst (λ (q : ℕ). LeftAlone q b c) p_is alone)
 
   pub alone_run : (c : Meaning) → IsSettled server.0 a.now → LeftAlone p b c → Run server.0 (StaysWhole geo image) a c
   alone_run c settled alone = looked geo server.0 a c settled (left_then (left_by_held held) (subst (λ (q : ℕ). LeftAlone q b c) p_is alone))
@@ -81,7 +79,7 @@ module _ (geo : Geometry) (server : ServerId) (fence p : ℕ) (a b : Meaning) (h
     built_here = subst (λ (i : List ℕ). IsBuilt geo (slots_in geo i) index older) same_seen built
 
     pub good_by : (store : SeenStore) → store.fence ≡ fence → IsGood geo server image store
-    good_by store is = record { fence = subst (λ (n : ℕ). IsOf geo server.0 (value image 0) (Some n)) (sym is) found; good = built_here.good }
+    good_by store is = record { fence = subst (λ (n : ℕ). HasFence geo server n image) (sym is) (super_found geo server.0 fence (value image 0) found); good = built_here.good }
 
     -- and the older parities are freed
     module _ (c d : Meaning) (freed : List ℕ) (freed_is : freed ≡ older) (alone : LeftAlone p b c) (settled : IsSettled server.0 a.now) (large : IsLarge geo image) where

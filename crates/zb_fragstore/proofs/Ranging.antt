@@ -8,16 +8,16 @@ use Rattle.zb_slots.specs.declared.header.Header.TheVariants.{Free, Share, Parit
 use Rattle.zb_slots.specs.Headers.{MayStand}
 use Rattle.zb_slots.specs.Holding.{free_in}
 use Rattle.zb_slots.specs.Slots.{Slot, Stored, bad_slot, free_slot, full_slot, shown}
-use Rattle.zb_slot_read.specs.Showing.{AllMayStand}
+use Rattle.zb_slots.specs.Showing.{AllMayStand}
 use Rattle.zb_index.specs.declared.spot.Spot.{Spot}
 use Rattle.zb_index.specs.Free.{times}
 use Rattle.zb_index.specs.Indexed.{size_of, IsIndexOf}
 use Rattle.zb_index.specs.Seen.{SeenIndex}
-use Rattle.zb_index.specs.Shown.{Says, AreShownBy}
+use Rattle.zb_slots.specs.Shown.{Says, AreShownBy}
 use Rattle.zb_index.specs.Twins.{AreOlder, AreFreed}
 use Rattle.zb_index.proofs.Counting.{once_same}
-use Rattle.zb_index.proofs.Saying.{are_shown}
-use Rattle.zb_platter.proofs.Knowing.{same_stored, not_free}
+use Rattle.zb_slots.proofs.Shows.{shown_says}
+use Rattle.zb_slot_map.proofs.Knowing.{same_stored, not_free}
 use Rattle.zb_fragstore.specs.Ranges.{AreInRange}
 
 -- one of three turns, and bytes that fit
@@ -60,7 +60,7 @@ abbrev slots_by : (n : ℕ) → List (Option Header) → ℕ → Slot
 slots_by n headers j = slot_by n (slice_get headers j)
 
 shown_by : (n : ℕ) (headers : List (Option Header)) → AreShownBy headers (slots_by n headers)
-shown_by n headers j header is = subst (λ (o : Option (Option Header)). Says header (slot_by n o)) (sym is) (are_shown n (λ _. 0) header)
+shown_by n headers j header is = subst (λ (o : Option (Option Header)). Says header (slot_by n o)) (sym is) (shown_says n (λ _. 0) header)
 
 -- and some of them freed
 abbrev freed : (ℕ → Slot) → List ℕ → ℕ → Slot
@@ -82,7 +82,7 @@ module _ (geo : Geometry) (headers : List (Option Header)) (count : length heade
 
   fit_by : (j : ℕ) (o : Option (Option Header)) → slice_get headers j ≡ o → (stored : Stored) → slot_by geo.servers o ≡ full_slot stored → Fits geo.fragment stored
   fit_by j None is stored full = absurd (cc full)
-  fit_by j (Some header) is stored full = says_fit geo.servers geo.fragment header (shown geo.servers (λ _. 0) header) (λ h e. may j h (is ∙ ap (λ (x : Option Header). Some x) e)) (are_shown geo.servers (λ _. 0) header) stored full
+  fit_by j (Some header) is stored full = says_fit geo.servers geo.fragment header (shown geo.servers (λ _. 0) header) (λ h e. may j h (is ∙ ap (λ (x : Option Header). Some x) e)) (shown_says geo.servers (λ _. 0) header) stored full
 
   pub built_in_range : (index : SeenIndex) (older : List ℕ) → ((slots now : ℕ → Slot) → AreShownBy headers slots → AreFreed (length headers) older slots now → IsIndexOf index (length headers) now) → AreInRange geo index
   built_in_range index older is =

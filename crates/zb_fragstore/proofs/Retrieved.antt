@@ -10,16 +10,16 @@ use Rattle.zb_types.specs.declared.requests.StoreFault.TheVariants.{Short}
 use Rattle.zb_holding.specs.Fragments.{Fragment}
 use Rattle.zb_holding.specs.Carrying.{found}
 use Rattle.zb_slots.specs.Slots.{Slot}
-use Rattle.zb_slot.specs.Changing.{share_slot, parity_slot}
+use Rattle.zb_slots.specs.Changing.{share_slot, parity_slot}
 use Rattle.zb_index.specs.declared.spot.Spot.{Spot}
 use Rattle.zb_index.specs.Seen.{spot_of}
-use Rattle.zb_platter.specs.Tidy.{slots_in}
-use Rattle.zb_slot_read.specs.declared.faults.ReadFault.{ReadFault}
-use Rattle.zb_slot_read.specs.declared.faults.ReadFault.TheVariants as reading
-use Rattle.zb_slot_read.specs.declared.parity.ParityRange.{ParityRange}
+use Rattle.zb_slots.specs.Slots.{slots_in}
+use Rattle.zb_slots.specs.declared.read_fault.ReadFault.{ReadFault}
+use Rattle.zb_slots.specs.declared.read_fault.ReadFault.TheVariants as reading
+use Rattle.zb_slots.specs.declared.parity.ParityRange.{ParityRange}
 use Rattle.zb_fragstore.specs.Reading.{or_unread}
 use Rattle.zb_fragstore.specs.Seen.{SeenStore}
-use Rattle.zb_fragstore.specs.Refusing.{is_share}
+use Rattle.zb_fragstore.specs.Seen.{is_share}
 use Rattle.zb_fragstore.specs.Changing.{map_in, IsOpen}
 use Rattle.zb_fragstore.proofs.Found.{ShareAt, ParityAt, share_at, parity_at}
 

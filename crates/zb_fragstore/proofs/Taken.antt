@@ -9,7 +9,7 @@ use Rattle.zb_index.specs.Seen.{SeenIndex, spot_of}
 use Rattle.zb_index.specs.Changes.{IsPut, first_spot, lengthened, next_spot, FollowsFill, FollowsMove}
 use Rattle.zb_index.specs.Free.{IsLeast}
 use Rattle.zb_holding.specs.Carrying.{same_frag}
-use Rattle.zb_platter.proofs.Names.{same_name}
+use Rattle.zb_slot_map.proofs.Names.{same_name}
 use Rattle.zb_fragstore.specs.Seen.{SeenStore, ChangesLength, TakesLeastSlot}
 use Rattle.zb_fragstore.specs.Ranges.{AreInRange}
 use Rattle.zb_fragstore.specs.Taking.{TakesSlot, Lengthens, MovesSlot}

@@ -11,23 +11,25 @@ use Rattle.zb_types.specs.declared.requests.Request.TheVariants as ask
 use Rattle.zb_types.specs.declared.requests.StoreFault.{StoreFault}
 use Rattle.zb_holding.specs.Fragments.{Fragment, share_fragment, parity_fragment}
 use Rattle.zb_slots.specs.Slots.{Stored, free_slot, full_slot}
-use Rattle.zb_slot.specs.Area.{IsArea, lengths_in}
-use Rattle.zb_slot.specs.Changing.{share_slot, parity_slot}
+use Rattle.zb_slots.specs.Area.{IsArea, lengths_in}
+use Rattle.zb_slots.specs.Changing.{share_slot, parity_slot}
 use Rattle.zb_index.specs.declared.spot.Spot.{Spot}
 use Rattle.zb_index.specs.Indexed.{IsIndexOf, size_of}
 use Rattle.zb_index.specs.Seen.{SeenIndex, spot_of}
 use Rattle.zb_index.specs.Free.{times, IsLeast}
 use Rattle.zb_index.proofs.Following.{free_there}
 use Rattle.zb_index.specs.Changes.{FollowsFill, FollowsFree, FollowsMove}
-use Rattle.zb_platter.specs.Tidy.{slots_in, map_of, put}
-use Rattle.zb_platter.specs.Changing.{IsKept, IsChanged, MapTold, IsReplaced, ReplaceTold}
+use Rattle.zb_slots.specs.Slots.{slots_in}
+use Rattle.zb_slots.specs.Holding.{map_of}
+use Rattle.zb_slot_map.specs.Tidy.{put}
+use Rattle.zb_slot_map.specs.Changing.{IsKept, IsChanged, MapTold, IsReplaced, ReplaceTold}
 use Rattle.zb_fragstore.specs.Seen.{SeenStore, is_there}
 use Rattle.zb_fragstore.specs.Answers.{or_stopped}
 use Rattle.zb_fragstore.specs.Changing.{IsOpen, CarriesOut}
 use Rattle.zb_fragstore.specs.Taking.{TakesSlot, GivesSlot, MovesSlot}
 use Rattle.zb_fragstore.proofs.Absent.{absent, held_at}
 use Rattle.zb_index.specs.Laws.{IsHeldAt}
-use Rattle.zb_fragstore.specs.Refusing.{is_share}
+use Rattle.zb_fragstore.specs.Seen.{is_share}
 use Rattle.zb_fragstore.proofs.Found.{ParityAt, parity_at}
 use Rattle.zb_fragstore.proofs.Carried.{IsNext, carried}
 use Rattle.zb_fragstore.proofs.Nexts.{next_store, next_parity, next_delete}

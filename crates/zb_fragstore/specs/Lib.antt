@@ -1,6 +1,6 @@
+pub mod Images
 pub mod Seen
 pub mod Answers
-pub mod Refusing
 pub mod Changing
 pub mod Appending
 pub mod Ranges

@@ -1,43 +1,49 @@
 -- What opening a store does, and when it doesn't.
-use Rattle.std.specs.Prelude.{◌≡◌, ◌≢◌, ℕ, ◌<◌, ◌≤◌, List, length, None, Some, Result, IsErrOf}
+use Rattle.std.specs.Prelude.{◌≡◌, ℕ, ◌+◌, ◌<◌, Bool, true, false, List, length, None, Some, Result, Err}
 use Rattle.zb_outside.specs.Meaning.{Meaning}
-use Rattle.zb_outside.specs.Streams.{Rose}
 use Rattle.zb_cell.specs.Cell.{value}
 use Rattle.zb_types.specs.declared.geometry.Geometry.{Geometry}
 use Rattle.zb_types.specs.declared.ids.FragId.{FragId}
 use Rattle.zb_types.specs.declared.ids.ServerId.{ServerId}
-use Rattle.zb_slots.specs.Slots.{Slot}
-use Rattle.zb_slots.specs.Holding.{IsBad}
-use Rattle.zb_slot_read.specs.declared.faults.ReadFault.{ReadFault}
-use Rattle.zb_slot_read.specs.declared.faults.ReadFault.TheVariants as reading
+use Rattle.zb_slots.specs.Slots.{Slot, slot_place}
+use Rattle.zb_slot_map.specs.Zeros.{pieces}
+use Rattle.zb_slots.specs.declared.read_fault.ReadFault.{ReadFault}
+use Rattle.zb_slots.specs.declared.read_fault.ReadFault.TheVariants as reading
 use Rattle.zb_index.specs.declared.faults.IndexFault.{IndexFault}
 use Rattle.zb_index.specs.declared.faults.IndexFault.TheVariants as indexing
 use Rattle.zb_index.specs.Indexed.{IsIndexOf}
 use Rattle.zb_index.specs.Seen.{SeenIndex}
 use Rattle.zb_index.specs.Twins.{NoneIsBad, IsFirstBad, AreOlder, AreFreed}
-use Rattle.zb_platter.specs.Tidy.{slots_in, map_of, IsSound}
-use Rattle.zb_platter.specs.Super.{IsOf}
+use Rattle.zb_slots.specs.Slots.{slots_in}
+use Rattle.zb_slots.specs.Holding.{map_of}
+use Rattle.zb_slot_map.specs.Tidy.{IsSound}
+use Rattle.zb_slot_map.specs.Super.{IsOf}
 use Rattle.zb_fragstore.specs.Seen.{SeenStore}
+use Rattle.zb_fragstore.specs.Images.{HasFence}
 use Rattle.zb_fragstore.specs.Changing.{map_in, IsOpen}
 use Rattle.zb_fragstore.specs.declared.faults.OpenFault.{OpenFault}
 use Rattle.zb_fragstore.specs.declared.faults.OpenFault.TheVariants.{Blank, Damaged, NoMemory, Stopped}
 
--- no slot is bad, and the super cell is this server's, with the fence
+-- the image is this server's, with the store's fence, and nothing on it is bad
 pub record IsGood (geo : Geometry) (server : ServerId) (image : List ℕ) (store : SeenStore) : Type 0 where
-  pub fence : IsOf geo server.0 (value image 0) (Some store.fence)
-  pub good : (j : ℕ) → j < geo.slots → IsBad (slots_in geo image) geo.slots j → ⊥
+  pub fence : HasFence geo server store.fence image
+  pub good : NoneIsBad (slots_in geo image) geo.slots
 
--- why an image isn't opened
+-- the image is this server's of this system
+abbrev pub IsOwn : Geometry → ServerId → List ℕ → Type 0
+IsOwn geo server image = (fence : ℕ) × HasFence geo server fence image
+
+-- the image isn't, whatever its fence
+abbrev pub IsForeign : Geometry → ServerId → List ℕ → Type 0
+IsForeign geo server image = IsOf geo server.0 (value image 0) None
+
+-- why an image isn't opened: it is none of this server's; or it is, and so and so is the first slot that is bad, or memory ran
+-- out, or its platter stopped
 abbrev pub IsUnfit : Geometry → ServerId → List ℕ → OpenFault → Type 0
-IsUnfit geo server image Blank = IsOf geo server.0 (value image 0) None
-IsUnfit geo server image (Damaged slot) = IsFirstBad (slots_in geo image) geo.slots slot
-IsUnfit geo server image NoMemory = Unit {0}
+IsUnfit geo server image Blank = IsForeign geo server image
+IsUnfit geo server image (Damaged slot) = IsOwn geo server image × IsFirstBad (slots_in geo image) geo.slots slot
+IsUnfit geo server image NoMemory = IsOwn geo server image
 IsUnfit geo server image Stopped = Unit {0}
-
--- a super cell of this server stands before a slot is said to be bad
-abbrev pub IsFoundFirst : Geometry → ServerId → List ℕ → OpenFault → Type 0
-IsFoundFirst geo server image (Damaged slot) = IsOf geo server.0 (value image 0) None → ⊥
-IsFoundFirst geo server image fault = Unit {0}
 
 -- the super cell, the length and the map are as before, and no slot is bad if none was
 pub record StaysWhole (geo : Geometry) (old new : List ℕ) : Type 0 where
@@ -51,11 +57,14 @@ pub record IsOpened (store : SeenStore) (a b : Meaning) : Type 0 where
   pub is_open : IsOpen store b.now
   pub map : (id : FragId) → map_in store b.now id ≡ map_in store a.now id
 
--- `Stopped` comes only where the count of the platter's failed calls rose, and no other count moves
-pub record HasCause {T : Type 0} (p : ℕ) (result : Result T OpenFault) (old new : ℕ → ℕ) : Type 0 where
-  pub stopped : IsErrOf result Stopped → Rose (old p) (new p)
-  pub later : old p ≤ new p
-  pub others : (q : ℕ) → q ≢ p → new q ≡ old q
+-- did the platter stop?
+abbrev pub opening_stopped : {T : Type 0} → Result T OpenFault → Bool
+opening_stopped (Err Stopped) = true
+opening_stopped result = false
+
+-- how many writes make a platter anew, at most
+abbrev pub format_writes : Geometry → ℕ
+format_writes geo = pieces (slot_place geo.fragment geo.slots) + 3
 
 -- why a store isn't opened whose platter wasn't read
 abbrev pub after_read : ReadFault → OpenFault

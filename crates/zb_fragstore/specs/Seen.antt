@@ -1,9 +1,11 @@
 -- What contracts see of a fragment store.
-use Rattle.std.specs.Prelude.{◌≡◌, ℕ, Bool, if◌then◌else◌, length, option_map, is_some, Option, Some}
+use Rattle.std.specs.Prelude.{◌≡◌, ℕ, ◌+◌, ◌-◌, Bool, true, false, nat_lt, if◌then◌else◌, length, option_map, is_some, Option, Some}
 use Rattle.zb_types.specs.declared.geometry.Geometry.{Geometry}
 use Rattle.zb_types.specs.declared.ids.FragId.{FragId}
 use Rattle.zb_types.specs.declared.ids.ServerId.{ServerId}
+use Rattle.zb_holding.specs.Fragments.{Fragment}
 use Rattle.zb_holding.specs.Carrying.{same_frag}
+use Rattle.zb_holding.specs.Rules.{Size, share_size, parity_size, Outline, Holdings}
 use Rattle.zb_index.specs.declared.spot.Spot.{Spot}
 use Rattle.zb_index.specs.Free.{IsLeast}
 use Rattle.zb_index.specs.Seen.{SeenIndex, spot_of}
@@ -14,6 +16,10 @@ pub record SeenStore : Type 0 where
   pub server : ServerId
   pub index : SeenIndex
   pub fence : ℕ
+
+-- shares have the indexes below the last, which is the parity's
+abbrev pub is_share : SeenStore → FragId → Bool
+is_share store id = nat_lt (id.index + 1) store.geo.servers
 
 -- the length of the fragment of this name, if there is one
 abbrev pub length_of : SeenStore → FragId → Option ℕ
@@ -40,3 +46,24 @@ pub record ChangesLength (id : FragId) (len : Option ℕ) (old new : SeenStore) 
 -- the fragment of this name stands in what was the least free slot
 abbrev pub TakesLeastSlot : FragId → SeenStore → SeenStore → Type 0
 TakesLeastSlot id old new = (spot : Spot) → spot_of new.index id ≡ Some spot → IsLeast old.index.free spot.slot
+
+-- the size of so many bytes of a share, or of a parity with n lengths
+abbrev pub size_by : (share : Bool) → (n len : ℕ) → Size
+size_by true n len = share_size len
+size_by false n len = parity_size n len
+
+-- the size of the fragment of this name at this spot
+abbrev pub size_at : SeenStore → FragId → Spot → Size
+size_at store id spot = size_by (is_share store id) (store.geo.servers - 1) spot.len
+
+-- the size of the fragment of this name, if there is one
+abbrev pub size_in : SeenStore → FragId → Option Size
+size_in store id = option_map (size_at store id) (spot_of store.index id)
+
+-- what a store knows of what it has without looking at its platter
+abbrev pub known : SeenStore → Outline
+known store = record { sizes = size_in store; fence = store.fence; free = free_of store }
+
+-- what a store has whose platter holds this map
+abbrev pub holding : SeenStore → (FragId → Option Fragment) → Holdings
+holding store map = record { map = map; fence = store.fence; free = free_of store }

@@ -1,18 +1,23 @@
 ghost use Rattle.std.specs.Prelude.{◌≡◌, ◌≢◌, ◌⊎◌, ◌≤◌, ◌+◌, ℕ, Some, None, length, true, IsTrue, IfErr, OnOk, Err};
+ghost use Rattle.zb_outside.specs.Counts.{Touches};
 ghost use Rattle.zb_types.specs.declared.requests.Request.TheVariants as ask;
 ghost use Rattle.zb_holding.specs.Fragments.{Fragment};
 ghost use Rattle.zb_index.specs.Seen.{spot_of};
 ghost use Rattle.zb_fragstore.specs.Seen.{free_of, IsStoreOf, ChangesLength};
-ghost use Rattle.zb_fragstore.specs.Refusing.{refusal_to_find, is_share};
-ghost use Rattle.zb_fragstore.specs.Changing.{map_in, IsOpen, CarriesOut, HasCause};
-ghost use Rattle.zb_fragstore.specs.Appending.{IsMisplaced, IsAnswered, refusal_to_append, HasGrown};
+ghost use Rattle.zb_fragstore.specs.Seen.{is_share, known, size_in};
+ghost use Rattle.zb_holding.specs.Rules.{IsMisplaced};
+ghost use Rattle.zb_holding.specs.Rules.{known_refusal};
+ghost use Rattle.zb_fragstore.specs.Answers.{is_stopped};
+ghost use Rattle.zb_fragstore.specs.Changing.{map_in, IsOpen, CarriesOut};
+ghost use Rattle.zb_holding.specs.Rules.{refusal_to_append};
+ghost use Rattle.zb_fragstore.specs.Appending.{IsAnswered, HasGrown};
 
 use crate::faults::or_stopped;
 use crate::store::FragStore;
 use zb_index::Spot;
 use zb_outside::Bay;
-use zb_platter::append_at;
-use zb_slot_read::stands_at;
+use zb_slot_map::append_at;
+use zb_slots::stands_at;
 use zb_types::{FragId, StoreFault};
 
 impl FragStore {
@@ -33,10 +38,7 @@ impl FragStore {
         ensures told { IsTrue B.tells → IsOpen self.old (B.meaning bay.old).now
             → CarriesOut (ask.Append id spot.len bytes.now) self.old self.new result (B.meaning bay.old) (B.meaning bay.new) }
         ensures system { IsStoreOf self.old.geo self.old.server self.new }
-        ensures cause { HasCause self.old.server.0 result (B.faults bay.old) (B.faults bay.new) }
-        ensures writes { (q : ℕ) → q ≢ self.old.server.0 → B.writes bay.new q ≡ B.writes bay.old q }
-        ensures streams { B.streams bay.new ≡ B.streams bay.old }
-        ensures follows { B.follows bay.old bay.new }
+        ensures touches { Touches B.counts B.follows self.old.server.0 4 (is_stopped result) bay.old bay.new }
     {
         self.lengthen(id, spot, spot.len + bytes.len() as u32);
         or_stopped(append_at(
@@ -61,7 +63,7 @@ impl FragStore {
     ) -> Result<(), StoreFault>
         requires there { spot_of self.old.index id ≡ Some spot }
         requires room { place + length bytes.now ≤ self.old.geo.fragment }
-        ensures taken { IfErr result (λ fault. (fault ≡ StoreFault.Stopped) ⊎ IsMisplaced self.old id place fault) }
+        ensures taken { IfErr result (λ fault. (fault ≡ StoreFault.Stopped) ⊎ IsMisplaced (size_in self.old id) place fault) }
         ensures answer { IsTrue B.tells → IsOpen self.old (B.meaning bay.old).now
             → (fragment : Fragment) → map_in self.old (B.meaning bay.old).now id ≡ Some fragment
             → IsAnswered (refusal_to_append fragment place bytes.now) result }
@@ -71,10 +73,7 @@ impl FragStore {
         ensures told { IsTrue B.tells → IsOpen self.old (B.meaning bay.old).now
             → CarriesOut (ask.Append id place bytes.now) self.old self.new result (B.meaning bay.old) (B.meaning bay.new) }
         ensures system { IsStoreOf self.old.geo self.old.server self.new }
-        ensures cause { HasCause self.old.server.0 result (B.faults bay.old) (B.faults bay.new) }
-        ensures writes { (q : ℕ) → q ≢ self.old.server.0 → B.writes bay.new q ≡ B.writes bay.old q }
-        ensures streams { B.streams bay.new ≡ B.streams bay.old }
-        ensures follows { B.follows bay.old bay.new }
+        ensures touches { Touches B.counts B.follows self.old.server.0 4 (is_stopped result) bay.old bay.new }
     {
         let stands = stands_at(
             bay,
@@ -109,11 +108,11 @@ impl FragStore {
     ) -> Result<(), StoreFault>
         requires room { place + length bytes.now ≤ self.old.geo.fragment }
         ensures refused { (fault : StoreFault)
-            → refusal_to_find self.old id generation ≡ Some fault → result ≡ Err fault }
-        ensures taken { refusal_to_find self.old id generation ≡ None
-            → IfErr result (λ fault. (fault ≡ StoreFault.Stopped) ⊎ IsMisplaced self.old id place fault) }
+            → known_refusal (known self.old) generation (ask.Append id place bytes.now) ≡ Some fault → result ≡ Err fault }
+        ensures taken { known_refusal (known self.old) generation (ask.Append id place bytes.now) ≡ None
+            → IfErr result (λ fault. (fault ≡ StoreFault.Stopped) ⊎ IsMisplaced (size_in self.old id) place fault) }
         ensures answer { IsTrue B.tells → IsOpen self.old (B.meaning bay.old).now
-            → refusal_to_find self.old id generation ≡ None
+            → known_refusal (known self.old) generation (ask.Append id place bytes.now) ≡ None
             → (fragment : Fragment) → map_in self.old (B.meaning bay.old).now id ≡ Some fragment
             → IsAnswered (refusal_to_append fragment place bytes.now) result }
         ensures same { IfErr result (λ fault. fault ≢ StoreFault.Stopped → self.new ≡ self.old) }
@@ -122,13 +121,10 @@ impl FragStore {
         ensures told { IsTrue B.tells → IsOpen self.old (B.meaning bay.old).now
             → CarriesOut (ask.Append id place bytes.now) self.old self.new result (B.meaning bay.old) (B.meaning bay.new) }
         ensures system { IsStoreOf self.old.geo self.old.server self.new }
-        ensures cause { HasCause self.old.server.0 result (B.faults bay.old) (B.faults bay.new) }
-        ensures writes { (q : ℕ) → q ≢ self.old.server.0 → B.writes bay.new q ≡ B.writes bay.old q }
-        ensures streams { B.streams bay.new ≡ B.streams bay.old }
-        ensures follows { B.follows bay.old bay.new }
+        ensures touches { Touches B.counts B.follows self.old.server.0 4 (is_stopped result) bay.old bay.new }
     {
         self.check_generation(generation)?;
-        let Some(spot) = self.index.find(id) else {
+        let Some(spot) = self.find(id) else {
             return Err(StoreFault::NoFragment);
         };
         self.append_at_spot(bay, id, spot, place, bytes)

@@ -1,15 +1,17 @@
 ghost use Rattle.std.specs.Prelude.{◌≡◌, ◌≢◌, ◌≤◌, ◌<◌, ◌+◌, ℕ, Some, None, length, IsTrue, IfErr, OnOk, Err};
+ghost use Rattle.zb_outside.specs.Counts.{Touches};
 ghost use Rattle.zb_types.specs.declared.requests.Request.TheVariants as ask;
 ghost use Rattle.zb_fragstore.specs.Seen.{free_of, IsStoreOf, ChangesLength, TakesLeastSlot};
-ghost use Rattle.zb_fragstore.specs.Answers.{IsUnforeseen};
-ghost use Rattle.zb_fragstore.specs.Refusing.{refusal_to_store, refusal_to_delete, refusal_to_fence};
-ghost use Rattle.zb_fragstore.specs.Changing.{IsOpen, CarriesOut, RaisesFence, HasCause};
+ghost use Rattle.zb_fragstore.specs.Answers.{IsUnforeseen, is_stopped};
+ghost use Rattle.zb_fragstore.specs.Seen.{known};
+ghost use Rattle.zb_holding.specs.Rules.{known_refusal};
+ghost use Rattle.zb_fragstore.specs.Changing.{IsOpen, CarriesOut};
 
 use crate::faults::or_stopped;
 use crate::store::FragStore;
 use std::alloc::Global;
 use zb_outside::Bay;
-use zb_platter::{fence_at, free_at, store_at};
+use zb_slot_map::{fence_at, free_at, store_at};
 use zb_types::{Class, FragId, StoreFault};
 
 impl FragStore {
@@ -30,8 +32,8 @@ impl FragStore {
         requires share { id.index + 1 < self.old.geo.servers }
         requires room { length bytes.now ≤ self.old.geo.fragment }
         ensures refused { (fault : StoreFault)
-            → refusal_to_store self.old id class generation ≡ Some fault → result ≡ Err fault }
-        ensures taken { refusal_to_store self.old id class generation ≡ None → IfErr result IsUnforeseen }
+            → known_refusal (known self.old) generation (ask.Store id bytes.now class) ≡ Some fault → result ≡ Err fault }
+        ensures taken { known_refusal (known self.old) generation (ask.Store id bytes.now class) ≡ None → IfErr result IsUnforeseen }
         ensures same { IfErr result (λ fault. fault ≢ StoreFault.Stopped → self.new ≡ self.old) }
         ensures still { IfErr result (λ fault. fault ≢ StoreFault.Stopped → bay.new ≡ bay.old) }
         ensures stored { OnOk result (ChangesLength id (Some (length bytes.now)) self.old self.new) }
@@ -40,13 +42,10 @@ impl FragStore {
         ensures told { IsTrue B.tells → IsOpen self.old (B.meaning bay.old).now
             → CarriesOut (ask.Store id bytes.now class) self.old self.new result (B.meaning bay.old) (B.meaning bay.new) }
         ensures system { IsStoreOf self.old.geo self.old.server self.new }
-        ensures cause { HasCause self.old.server.0 result (B.faults bay.old) (B.faults bay.new) }
-        ensures writes { (q : ℕ) → q ≢ self.old.server.0 → B.writes bay.new q ≡ B.writes bay.old q }
-        ensures streams { B.streams bay.new ≡ B.streams bay.old }
-        ensures follows { B.follows bay.old bay.new }
+        ensures touches { Touches B.counts B.follows self.old.server.0 4 (is_stopped result) bay.old bay.new }
     {
         self.check_generation(generation)?;
-        if self.index.find(id).is_some() {
+        if self.find(id).is_some() {
             return Err(StoreFault::Exists);
         }
         self.check_room(class)?;
@@ -58,8 +57,8 @@ impl FragStore {
     ///
     /// `NoFragment` comes exactly where no fragment has this name. It takes no memory.
     pub fn delete<B: Bay>(&mut self, bay: &mut B, id: FragId) -> Result<(), StoreFault>
-        ensures refused { (fault : StoreFault) → refusal_to_delete self.old id ≡ Some fault → result ≡ Err fault }
-        ensures taken { refusal_to_delete self.old id ≡ None → IfErr result (λ fault. fault ≡ StoreFault.Stopped) }
+        ensures refused { (fault : StoreFault) → known_refusal (known self.old) 0 (ask.Delete id) ≡ Some fault → result ≡ Err fault }
+        ensures taken { known_refusal (known self.old) 0 (ask.Delete id) ≡ None → IfErr result (λ fault. fault ≡ StoreFault.Stopped) }
         ensures same { IfErr result (λ fault. fault ≢ StoreFault.Stopped → self.new ≡ self.old) }
         ensures still { IfErr result (λ fault. fault ≢ StoreFault.Stopped → bay.new ≡ bay.old) }
         ensures deleted { OnOk result (ChangesLength id None self.old self.new) }
@@ -67,10 +66,7 @@ impl FragStore {
         ensures told { IsTrue B.tells → IsOpen self.old (B.meaning bay.old).now
             → CarriesOut (ask.Delete id) self.old self.new result (B.meaning bay.old) (B.meaning bay.new) }
         ensures system { IsStoreOf self.old.geo self.old.server self.new }
-        ensures cause { HasCause self.old.server.0 result (B.faults bay.old) (B.faults bay.new) }
-        ensures writes { (q : ℕ) → q ≢ self.old.server.0 → B.writes bay.new q ≡ B.writes bay.old q }
-        ensures streams { B.streams bay.new ≡ B.streams bay.old }
-        ensures follows { B.follows bay.old bay.new }
+        ensures touches { Touches B.counts B.follows self.old.server.0 3 (is_stopped result) bay.old bay.new }
     {
         let Some(slot) = self.give_slot(id) else {
             return Err(StoreFault::NoFragment);
@@ -78,22 +74,20 @@ impl FragStore {
         or_stopped(free_at(bay, &self.geo, self.platter(), slot))
     }
 
-    /// Raises the fence to this generation.
+    /// Raises the fence to this generation. One that stands already is not written again.
     ///
     /// `OldGeneration` comes exactly where it is above that already. It takes no memory.
     pub fn fence<B: Bay>(&mut self, bay: &mut B, generation: u64) -> Result<(), StoreFault>
-        ensures refused { (fault : StoreFault) → refusal_to_fence self.old generation ≡ Some fault → result ≡ Err fault }
-        ensures taken { refusal_to_fence self.old generation ≡ None → IfErr result (λ fault. fault ≡ StoreFault.Stopped) }
+        ensures refused { (fault : StoreFault) → known_refusal (known self.old) 0 (ask.Fence generation) ≡ Some fault → result ≡ Err fault }
+        ensures taken { known_refusal (known self.old) 0 (ask.Fence generation) ≡ None → IfErr result (λ fault. fault ≡ StoreFault.Stopped) }
         ensures same { IfErr result (λ fault. fault ≢ StoreFault.Stopped → self.new ≡ self.old) }
         ensures still { IfErr result (λ fault. fault ≢ StoreFault.Stopped → bay.new ≡ bay.old) }
         ensures raised { OnOk result (self.new ≡ record self.old { fence = generation }) }
+        ensures kept { generation ≡ self.old.fence → bay.new ≡ bay.old }
         ensures told { IsTrue B.tells → IsOpen self.old (B.meaning bay.old).now
-            → RaisesFence generation self.old self.new result (B.meaning bay.old) (B.meaning bay.new) }
+            → CarriesOut (ask.Fence generation) self.old self.new result (B.meaning bay.old) (B.meaning bay.new) }
         ensures system { IsStoreOf self.old.geo self.old.server self.new }
-        ensures cause { HasCause self.old.server.0 result (B.faults bay.old) (B.faults bay.new) }
-        ensures writes { (q : ℕ) → q ≢ self.old.server.0 → B.writes bay.new q ≡ B.writes bay.old q }
-        ensures streams { B.streams bay.new ≡ B.streams bay.old }
-        ensures follows { B.follows bay.old bay.new }
+        ensures touches { Touches B.counts B.follows self.old.server.0 3 (is_stopped result) bay.old bay.new }
     {
         self.check_generation(generation)?;
         if generation == self.fence {

@@ -10,8 +10,6 @@ mod parity;
 mod read;
 mod slots;
 mod store;
-#[cfg(test)]
-mod tests;
 
 pub use faults::OpenFault;
 pub use store::FragStore;

@@ -1,29 +1,30 @@
-ghost use Rattle.std.specs.Prelude.{◌≡◌, ◌≢◌, ◌≤◌, ◌<◌, ◌^◌, ℕ, length, All, None, Some, IsTrue, IfOk, IfErr};
+ghost use Rattle.std.specs.Prelude.{◌*◌, ◌≡◌, ◌≢◌, ◌≤◌, ◌<◌, ◌^◌, ℕ, length, All, None, Some, IsTrue, IfOk, IfErr};
+ghost use Rattle.zb_outside.specs.Counts.{Touches};
 ghost use Rattle.zb_outside.specs.Runs.{Run, IsSettled, Held};
 ghost use Rattle.zb_cell.specs.Cell.{value};
 ghost use Rattle.zb_types.specs.declared.ids.FragId.{FragId};
 ghost use Rattle.zb_slots.specs.Slots.{Slot};
-ghost use Rattle.zb_slot_read.specs.Reading.{LeftAlone};
-ghost use Rattle.zb_slot_read.specs.Showing.{AllMayStand};
-ghost use Rattle.zb_index.specs.Shown.{AreShownBy};
-ghost use Rattle.zb_platter.specs.Tidy.{IsLarge, slots_in};
-ghost use Rattle.zb_platter.specs.Super.{super_text, FormatTold, IsOf};
+ghost use Rattle.zb_slots.specs.Reading.{LeftAlone};
+ghost use Rattle.zb_slots.specs.Showing.{AllMayStand};
+ghost use Rattle.zb_slots.specs.Shown.{AreShownBy};
+ghost use Rattle.zb_slots.specs.Slots.{slots_in};
+ghost use Rattle.zb_slots.specs.Holding.{IsLarge};
+ghost use Rattle.zb_slot_map.specs.Super.{super_text, FormatTold, IsOf};
 ghost use Rattle.zb_fragstore.specs.declared.faults.OpenFault.TheVariants as fault;
 ghost use Rattle.zb_fragstore.specs.Seen.{free_of, length_of, IsStoreOf};
 ghost use Rattle.zb_fragstore.specs.Ranges.{AreInRange};
-ghost use Rattle.zb_fragstore.specs.Changing.{IsOpen, HasCause as StoreCause};
-ghost use Rattle.zb_fragstore.specs.Answers.{IsUnforeseen};
-ghost use Rattle.zb_fragstore.specs.Opening.{IsGood, IsUnfit, IsFoundFirst, StaysWhole, IsOpened, HasCause, IsBuilt, TellsSlots, after_read, after_index};
+ghost use Rattle.zb_fragstore.specs.Changing.{IsOpen};
+ghost use Rattle.zb_fragstore.specs.Answers.{IsUnforeseen, is_stopped};
+ghost use Rattle.zb_fragstore.specs.Reading.{IsLookedAt};
+ghost use Rattle.zb_fragstore.specs.Opening.{opening_stopped, format_writes, IsGood, IsUnfit, StaysWhole, IsOpened, IsBuilt, TellsSlots, after_read, after_index};
 
 use crate::faults::{OpenFault, or_stopped, starved};
 use crate::store::FragStore;
 use std::alloc::Global;
 use zb_index::{Built, Index, IndexFault};
 use zb_outside::Bay;
-use zb_platter::{find_fence, format_at};
-use zb_slot_read::{ReadFault, headers};
-use zb_slots::Header;
-use zb_twins::free_older;
+use zb_slot_map::{find_fence, format_at, free_older};
+use zb_slots::{Header, ReadFault, headers};
 use zb_types::{Failed, Geometry, ServerId, StoreFault};
 
 impl From<Failed> for OpenFault {
@@ -62,11 +63,7 @@ fn fence_of<B: Bay>(bay: &mut B, geo: &Geometry, server: ServerId) -> Result<u64
     ensures found { IsTrue B.tells → IfOk result (λ fence. IsOf geo.now server.0 (value ((B.meaning bay.old).now.seen server.0) 0) (Some fence)) }
     ensures fits { IfOk result (λ fence. fence < 2 ^ 64) }
     ensures unfit { IsTrue B.tells → IfErr result (IsUnfit geo.now server ((B.meaning bay.old).now.seen server.0)) }
-    ensures first { IsTrue B.tells → IfErr result (IsFoundFirst geo.now server ((B.meaning bay.old).now.seen server.0)) }
-    ensures cause { HasCause server.0 result (B.faults bay.old) (B.faults bay.new) }
-    ensures writes { (q : ℕ) → B.writes bay.new q ≡ B.writes bay.old q }
-    ensures streams { B.streams bay.new ≡ B.streams bay.old }
-    ensures follows { B.follows bay.old bay.new }
+    ensures touches { Touches B.counts B.follows server.0 0 (opening_stopped result) bay.old bay.new }
 {
     let Some(fence) = find_fence(bay, geo, usize::from(server.0), server)? else {
         return Err(OpenFault::Blank);
@@ -82,6 +79,7 @@ fn index_of(alloc: Global, geo: &Geometry, headers: &[Option<Header>]) -> Result
     ensures fault { IfErr result (λ fault. (slots : ℕ → Slot) → AreShownBy headers.now slots → TellsSlots slots geo.now.slots fault) }
     ensures range { IfOk result (λ built. AreInRange geo.now built.index) }
     ensures within { IfOk result (λ built. All (λ slot. slot < geo.now.slots) built.older) }
+    ensures few { IfOk result (λ built. length built.older ≤ geo.now.slots) }
     ensures no_call { IfErr result (λ fault. fault ≢ OpenFault.Stopped) }
 {
     Ok(Index::build(alloc, headers)?)
@@ -100,10 +98,8 @@ fn read_index<B: Bay>(
     ensures fault { IsTrue B.tells → IfErr result (TellsSlots (slots_in geo.now ((B.meaning bay.old).now.seen platter)) geo.now.slots) }
     ensures range { IfOk result (λ built. AreInRange geo.now built.index) }
     ensures within { IfOk result (λ built. All (λ slot. slot < geo.now.slots) built.older) }
-    ensures cause { HasCause platter result (B.faults bay.old) (B.faults bay.new) }
-    ensures writes { (q : ℕ) → B.writes bay.new q ≡ B.writes bay.old q }
-    ensures streams { B.streams bay.new ≡ B.streams bay.old }
-    ensures follows { B.follows bay.old bay.new }
+    ensures few { IfOk result (λ built. length built.older ≤ geo.now.slots) }
+    ensures touches { Touches B.counts B.follows platter 0 (opening_stopped result) bay.old bay.new }
 {
     let found = headers(alloc, bay, geo, platter)?;
     index_of(alloc, geo, &found)
@@ -128,10 +124,7 @@ impl FragStore {
         ensures still { IfErr result (λ fault. fault ≢ StoreFault.Stopped → bay.new ≡ bay.old) }
         ensures told { IsTrue B.tells → FormatTold geo.now server.0 (super_text geo.now server.0 fence) result (B.meaning bay.old) (B.meaning bay.new) }
         ensures is_open { IsTrue B.tells → IfOk result (λ store. IsOpen store (B.meaning bay.new).now) }
-        ensures cause { StoreCause server.0 result (B.faults bay.old) (B.faults bay.new) }
-        ensures writes { (q : ℕ) → q ≢ server.0 → B.writes bay.new q ≡ B.writes bay.old q }
-        ensures streams { B.streams bay.new ≡ B.streams bay.old }
-        ensures follows { B.follows bay.old bay.new }
+        ensures touches { Touches B.counts B.follows server.0 (format_writes geo.now) (is_stopped result) bay.old bay.new }
     {
         let index = Index::empty(alloc, geo.slots).map_err(starved)?;
         or_stopped(format_at(bay, geo, usize::from(server.0), server, fence))?;
@@ -146,7 +139,8 @@ impl FragStore {
     /// Opens the store on the platter of a server. Of a parity that stands twice the newer counts, and the older is freed.
     ///
     /// `Blank` comes exactly where the super cell has no value or isn't this server's of this system, and else `Damaged`
-    /// exactly where a slot is bad, with the first such.
+    /// exactly where a slot is bad, with the first such, and `NoMemory` never for a platter of another. After these faults
+    /// the platter is as it was.
     pub fn open<B: Bay>(
         alloc: Global,
         bay: &mut B,
@@ -156,17 +150,14 @@ impl FragStore {
         ensures is { IfOk result (IsStoreOf geo.now server) }
         ensures good { IsTrue B.tells → IfOk result (IsGood geo.now server ((B.meaning bay.old).now.seen server.0)) }
         ensures unfit { IsTrue B.tells → IfErr result (IsUnfit geo.now server ((B.meaning bay.old).now.seen server.0)) }
-        ensures first { IsTrue B.tells → IfErr result (IsFoundFirst geo.now server ((B.meaning bay.old).now.seen server.0)) }
+        ensures looked { IsTrue B.tells → IfErr result (λ fault. fault ≢ OpenFault.Stopped → IsLookedAt server.0 (B.meaning bay.old) (B.meaning bay.new)) }
         ensures told { IsTrue B.tells → IsSettled server.0 (B.meaning bay.old).now
             → IsLarge geo.now ((B.meaning bay.old).now.seen server.0)
             → Run server.0 (StaysWhole geo.now ((B.meaning bay.old).now.seen server.0)) (B.meaning bay.old) (B.meaning bay.new) }
         ensures is_open { IsTrue B.tells → IsSettled server.0 (B.meaning bay.old).now
             → IsLarge geo.now ((B.meaning bay.old).now.seen server.0)
             → IfOk result (λ store. IsOpened store (B.meaning bay.old) (B.meaning bay.new)) }
-        ensures cause { HasCause server.0 result (B.faults bay.old) (B.faults bay.new) }
-        ensures writes { (q : ℕ) → q ≢ server.0 → B.writes bay.new q ≡ B.writes bay.old q }
-        ensures streams { B.streams bay.new ≡ B.streams bay.old }
-        ensures follows { B.follows bay.old bay.new }
+        ensures touches { Touches B.counts B.follows server.0 (3 * geo.now.slots) (opening_stopped result) bay.old bay.new }
     {
         let fence = fence_of(bay, geo, server)?;
         let platter = usize::from(server.0);

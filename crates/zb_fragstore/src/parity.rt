@@ -1,17 +1,19 @@
 ghost use Rattle.std.specs.Prelude.{◌≡◌, ◌≢◌, ◌≤◌, ◌<◌, ◌+◌, ◌-◌, ℕ, Some, None, drop, length, true, false, if◌then◌else◌, IsTrue, IfOk, IfErr, OnOk, Err};
+ghost use Rattle.zb_outside.specs.Counts.{Touches};
 ghost use Rattle.zb_types.specs.declared.requests.Request.TheVariants as ask;
-ghost use Rattle.zb_slot.specs.Area.{IsArea, lengths_in};
+ghost use Rattle.zb_slots.specs.Area.{IsArea, lengths_in};
 ghost use Rattle.zb_fragstore.specs.Seen.{free_of, IsStoreOf, is_there, ChangesLength, TakesLeastSlot};
-ghost use Rattle.zb_fragstore.specs.Answers.{IsUnforeseen};
-ghost use Rattle.zb_fragstore.specs.Refusing.{refusal_to_replace};
-ghost use Rattle.zb_fragstore.specs.Changing.{IsOpen, CarriesOut, HasCause};
+ghost use Rattle.zb_fragstore.specs.Answers.{IsUnforeseen, is_stopped};
+ghost use Rattle.zb_fragstore.specs.Seen.{known};
+ghost use Rattle.zb_holding.specs.Rules.{known_refusal};
+ghost use Rattle.zb_fragstore.specs.Changing.{IsOpen, CarriesOut};
 
 use crate::faults::or_stopped;
 use crate::store::FragStore;
 use std::alloc::Global;
 use zb_outside::Bay;
-use zb_platter::{ParitySlot, replace_parity_at, store_parity_at};
-use zb_slot::parity_area;
+use zb_slot_map::{ParitySlot, replace_parity_at, store_parity_at};
+use zb_slots::parity_area;
 use zb_types::{Class, FragId, StoreFault};
 
 // The area of a parity, which is written at once.
@@ -48,10 +50,7 @@ impl FragStore {
         ensures told { IsTrue B.tells → IsOpen self.old (B.meaning bay.old).now → (class : Class)
             → CarriesOut (ask.Parity id (lengths_in (self.old.geo.servers - 1) area.now) (drop 64 area.now) class) self.old self.new result (B.meaning bay.old) (B.meaning bay.new) }
         ensures system { IsStoreOf self.old.geo self.old.server self.new }
-        ensures cause { HasCause self.old.server.0 result (B.faults bay.old) (B.faults bay.new) }
-        ensures writes { (q : ℕ) → q ≢ self.old.server.0 → B.writes bay.new q ≡ B.writes bay.old q }
-        ensures streams { B.streams bay.new ≡ B.streams bay.old }
-        ensures follows { B.follows bay.old bay.new }
+        ensures touches { Touches B.counts B.follows self.old.server.0 4 (is_stopped result) bay.old bay.new }
     {
         let len = (area.len() - 64) as u32;
         let slot = self.take_slot(id, len)?;
@@ -79,10 +78,7 @@ impl FragStore {
         ensures told { IsTrue B.tells → IsOpen self.old (B.meaning bay.old).now → (class : Class)
             → CarriesOut (ask.Parity id (lengths_in (self.old.geo.servers - 1) area.now) (drop 64 area.now) class) self.old self.new result (B.meaning bay.old) (B.meaning bay.new) }
         ensures system { IsStoreOf self.old.geo self.old.server self.new }
-        ensures cause { HasCause self.old.server.0 result (B.faults bay.old) (B.faults bay.new) }
-        ensures writes { (q : ℕ) → q ≢ self.old.server.0 → B.writes bay.new q ≡ B.writes bay.old q }
-        ensures streams { B.streams bay.new ≡ B.streams bay.old }
-        ensures follows { B.follows bay.old bay.new }
+        ensures touches { Touches B.counts B.follows self.old.server.0 7 (is_stopped result) bay.old bay.new }
     {
         let len = (area.len() - 64) as u32;
         let moved = self.move_slot(id, len);
@@ -112,8 +108,8 @@ impl FragStore {
         requires lengths { length lengths.now + 1 ≡ self.old.geo.servers }
         requires room { length bytes.now ≤ self.old.geo.fragment }
         ensures refused { (fault : StoreFault)
-            → refusal_to_replace self.old id class generation ≡ Some fault → result ≡ Err fault }
-        ensures taken { refusal_to_replace self.old id class generation ≡ None → IfErr result IsUnforeseen }
+            → known_refusal (known self.old) generation (ask.Parity id lengths.now bytes.now class) ≡ Some fault → result ≡ Err fault }
+        ensures taken { known_refusal (known self.old) generation (ask.Parity id lengths.now bytes.now class) ≡ None → IfErr result IsUnforeseen }
         ensures same { IfErr result (λ fault. fault ≢ StoreFault.Stopped → self.new ≡ self.old) }
         ensures still { IfErr result (λ fault. fault ≢ StoreFault.Stopped → bay.new ≡ bay.old) }
         ensures stored { OnOk result (ChangesLength id (Some (length bytes.now)) self.old self.new) }
@@ -122,13 +118,10 @@ impl FragStore {
         ensures told { IsTrue B.tells → IsOpen self.old (B.meaning bay.old).now
             → CarriesOut (ask.Parity id lengths.now bytes.now class) self.old self.new result (B.meaning bay.old) (B.meaning bay.new) }
         ensures system { IsStoreOf self.old.geo self.old.server self.new }
-        ensures cause { HasCause self.old.server.0 result (B.faults bay.old) (B.faults bay.new) }
-        ensures writes { (q : ℕ) → q ≢ self.old.server.0 → B.writes bay.new q ≡ B.writes bay.old q }
-        ensures streams { B.streams bay.new ≡ B.streams bay.old }
-        ensures follows { B.follows bay.old bay.new }
+        ensures touches { Touches B.counts B.follows self.old.server.0 7 (is_stopped result) bay.old bay.new }
     {
         self.check_generation(generation)?;
-        let is_there = self.index.find(id).is_some();
+        let is_there = self.find(id).is_some();
         self.check_room(if is_there { Class::Cleaner } else { class })?;
         let area = spell_area(alloc, lengths, bytes)?;
         if is_there {

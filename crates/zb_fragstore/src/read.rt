@@ -1,17 +1,22 @@
-ghost use Rattle.std.specs.Prelude.{◌≡◌, ◌≤◌, ◌<◌, ◌+◌, ℕ, Some, None, take, false, IsTrue, IfOk, IfErr, Err, ◌⊎◌};
-ghost use Rattle.zb_slot_read.specs.Reading.{LeftAlone};
+ghost use Rattle.std.specs.Prelude.{◌≡◌, ◌≤◌, ◌<◌, ◌+◌, ◌-◌, ℕ, Some, None, false, IsTrue, IfOk, IfErr, Err, ◌⊎◌};
+ghost use Rattle.zb_outside.specs.Counts.{Touches};
+ghost use Rattle.zb_types.specs.declared.requests.Request.TheVariants as ask;
 ghost use Rattle.zb_holding.specs.Carrying.{found};
-ghost use Rattle.zb_index.specs.Seen.{spot_of, most_names, names_above};
-ghost use Rattle.zb_fragstore.specs.Answers.{IsUnforeseen};
-ghost use Rattle.zb_fragstore.specs.Reading.{or_unread};
-ghost use Rattle.zb_fragstore.specs.Refusing.{refusal_to_read, is_share};
-ghost use Rattle.zb_fragstore.specs.Changing.{map_in, IsOpen, HasCause};
+ghost use Rattle.zb_holding.specs.Rules.{parity_size, IsRange};
+ghost use Rattle.zb_holding.specs.Listing.{AreLeastAbove};
+ghost use Rattle.zb_index.specs.Seen.{spot_of};
+ghost use Rattle.zb_fragstore.specs.Seen.{is_there, size_in};
+ghost use Rattle.zb_fragstore.specs.Answers.{IsUnforeseen, is_stopped};
+ghost use Rattle.zb_fragstore.specs.Reading.{or_unread, IsLookedAt};
+ghost use Rattle.zb_fragstore.specs.Seen.{is_share, known};
+ghost use Rattle.zb_holding.specs.Rules.{known_refusal};
+ghost use Rattle.zb_fragstore.specs.Changing.{map_in, IsOpen};
 
 use crate::store::FragStore;
 use std::alloc::Global;
 use zb_index::Spot;
 use zb_outside::Bay;
-use zb_slot_read::{ReadFault, parity_range, share_bytes};
+use zb_slots::{ReadFault, parity_range, share_bytes};
 use zb_types::{FragId, FragList, Mem, Response, StoreFault};
 
 // What a store answers by what a read of a slot answered.
@@ -42,19 +47,17 @@ impl FragStore {
     ) -> Result<Response, StoreFault>
         requires room { place + len ≤ self.old.geo.fragment }
         ensures refused { (fault : StoreFault)
-            → refusal_to_read self.old id place len generation ≡ Some fault → result ≡ Err fault }
-        ensures taken { refusal_to_read self.old id place len generation ≡ None → IfErr result IsUnforeseen }
+            → known_refusal (known self.old) generation (ask.Retrieve id place len) ≡ Some fault → result ≡ Err fault }
+        ensures taken { known_refusal (known self.old) generation (ask.Retrieve id place len) ≡ None → IfErr result IsUnforeseen }
+        ensures form { IfOk result (IsRange (size_in self.old id) len) }
         ensures same { self.new ≡ self.old }
-        ensures told { IsTrue B.tells → LeftAlone self.old.server.0 (B.meaning bay.old) (B.meaning bay.new) }
+        ensures told { IsTrue B.tells → IsLookedAt self.old.server.0 (B.meaning bay.old) (B.meaning bay.new) }
         ensures found { IsTrue B.tells → IsOpen self.old (B.meaning bay.old).now
             → IfOk result (λ response. response ≡ found (map_in self.old (B.meaning bay.old).now id) place len) }
-        ensures cause { HasCause self.old.server.0 result (B.faults bay.old) (B.faults bay.new) }
-        ensures writes { (q : ℕ) → B.writes bay.new q ≡ B.writes bay.old q }
-        ensures streams { B.streams bay.new ≡ B.streams bay.old }
-        ensures follows { B.follows bay.old bay.new }
+        ensures touches { Touches B.counts B.follows self.old.server.0 0 (is_stopped result) bay.old bay.new }
     {
         self.check_generation(generation)?;
-        let Some(spot) = self.index.find(id) else {
+        let Some(spot) = self.find(id) else {
             return Err(StoreFault::NoFragment);
         };
         if !self.is_share(id) {
@@ -80,15 +83,13 @@ impl FragStore {
         requires room { place + len ≤ self.old.geo.fragment }
         requires spot { spot.slot < self.old.geo.slots }
         ensures answer { IfErr result IsUnforeseen }
+        ensures form { IfOk result (IsRange (Some (parity_size (self.old.geo.servers - 1) spot.len)) len) }
         ensures same { self.new ≡ self.old }
-        ensures told { IsTrue B.tells → LeftAlone self.old.server.0 (B.meaning bay.old) (B.meaning bay.new) }
+        ensures told { IsTrue B.tells → IsLookedAt self.old.server.0 (B.meaning bay.old) (B.meaning bay.new) }
         ensures found { IsTrue B.tells → IsOpen self.old (B.meaning bay.old).now
             → (id : FragId) → spot_of self.old.index id ≡ Some spot → is_share self.old id ≡ false
             → IfOk result (λ response. response ≡ found (map_in self.old (B.meaning bay.old).now id) place len) }
-        ensures cause { HasCause self.old.server.0 result (B.faults bay.old) (B.faults bay.new) }
-        ensures writes { (q : ℕ) → B.writes bay.new q ≡ B.writes bay.old q }
-        ensures streams { B.streams bay.new ≡ B.streams bay.old }
-        ensures follows { B.follows bay.old bay.new }
+        ensures touches { Touches B.counts B.follows self.old.server.0 0 (is_stopped result) bay.old bay.new }
     {
         let platter = self.platter();
         let range = or_unread(parity_range(
@@ -103,7 +104,7 @@ impl FragStore {
     /// The least 256 names above this one, or above none, in order: all of them, where there are fewer. It looks at no
     /// generation.
     pub fn identify(&self, alloc: Global, after: Option<FragId>) -> Mem<FragList>
-        ensures { IfOk result (λ ids. ids ≡ take most_names (names_above after self.now.index)) }
+        ensures { IfOk result (AreLeastAbove (is_there self.now) after) }
     {
         self.index.names_above(alloc, after)
     }

@@ -1,9 +1,11 @@
-ghost use Rattle.std.specs.Prelude.{◌≡◌, IfErr, OnOk, Some, None};
-ghost use Rattle.zb_fragstore.specs.Seen.{free_of};
-ghost use Rattle.zb_fragstore.specs.Refusing.{unless_old, no_slot, is_share};
+ghost use Rattle.std.specs.Prelude.{◌≡◌, is_some, option_map, IfErr, OnOk, Some, None};
+ghost use Rattle.zb_index.specs.Seen.{spot_of};
+ghost use Rattle.zb_fragstore.specs.Seen.{free_of, size_at, size_in};
+ghost use Rattle.zb_fragstore.specs.Seen.{is_share};
+ghost use Rattle.zb_holding.specs.Rules.{unless_old, no_slot};
 
 use std::marker::Model;
-use zb_index::Index;
+use zb_index::{Index, Spot};
 use zb_types::{Class, FragId, Geometry, ServerId, StoreFault};
 
 /// The fragments of one server, which stand on the platter with the server's number. In memory are only their names,
@@ -44,10 +46,19 @@ impl FragStore {
         u32::from(id.index) + 1 < self.geo.servers
     }
 
+    // Where the fragment of this name stands, if there is one.
+    pub(crate) fn find(&self, id: FragId) -> Option<Spot>
+        ensures spot { result ≡ spot_of self.now.index id }
+        ensures size { size_in self.now id ≡ option_map (size_at self.now id) result }
+        ensures there { is_some (size_in self.now id) ≡ is_some result }
+    {
+        self.index.find(id)
+    }
+
     // Refuses a generation below the fence.
     pub(crate) fn check_generation(&self, generation: u64) -> Result<(), StoreFault>
-        ensures ok { OnOk result (unless_old self.now generation None ≡ None) }
-        ensures err { IfErr result (λ fault. unless_old self.now generation None ≡ Some fault) }
+        ensures ok { OnOk result (unless_old self.now.fence generation None ≡ None) }
+        ensures err { IfErr result (λ fault. unless_old self.now.fence generation None ≡ Some fault) }
     {
         if generation < self.fence {
             return Err(StoreFault::OldGeneration { now: self.fence });
@@ -57,8 +68,8 @@ impl FragStore {
 
     // Refuses where no slot is left for this class.
     pub(crate) fn check_room(&self, class: Class) -> Result<(), StoreFault>
-        ensures ok { OnOk result (no_slot self.now class ≡ None) }
-        ensures err { IfErr result (λ fault. no_slot self.now class ≡ Some fault) }
+        ensures ok { OnOk result (no_slot (free_of self.now) class ≡ None) }
+        ensures err { IfErr result (λ fault. no_slot (free_of self.now) class ≡ Some fault) }
     {
         let free = self.index.free();
         let least = match class {

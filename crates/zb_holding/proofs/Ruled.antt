@@ -11,7 +11,7 @@ use Rattle.zb_types.specs.declared.requests.StoreFault.{StoreFault}
 use Rattle.zb_types.specs.declared.requests.StoreFault.TheVariants.{NoFragment, Short}
 use Rattle.zb_holding.specs.Fragments.{Fragment, share_fragment, parity_fragment}
 use Rattle.zb_holding.specs.Carrying.{found}
-use Rattle.zb_holding.specs.Rules.{Holdings, size_of, unless_old, refusal_up_to, refusal_of, IsServed, IsAnswer}
+use Rattle.zb_holding.specs.Rules.{Holdings, Outline, size_of, unless_old, refusal_up_to, known_refusal, refusal_of, AreTold, IsServed, IsAnswer}
 use Rattle.std.specs.Prelude.{option_map, take, drop}
 
 -- what is found in a range is refused just where a rule says so
@@ -50,3 +50,16 @@ done_is_unrefused has generation request response done answer = by_cases (refusa
       where
         told_apart : (fault : StoreFault) → told.Done ≡ told.Refused fault → ⊥
         told_apart fault e = cc
+
+-- outlines that agree refuse the same
+pub same_refusal : (one other : Outline) → ((id : FragId) → one.sizes id ≡ other.sizes id) → one.fence ≡ other.fence → one.free ≡ other.free
+    → (generation : ℕ) (request : Request) → known_refusal one generation request ≡ known_refusal other generation request
+same_refusal one other sizes fence free generation request =
+    let same : one ≡ other = λ i. record { sizes = λ id. sizes id i; fence = fence i; free = free i } in
+    ap (λ (o : Outline). known_refusal o generation request) same
+
+-- names that are told are told of whatever holds the same names
+pub told_of_same : (there other : FragId → Bool) (after : Option FragId) (response : Response) → ((id : FragId) → there id ≡ other id) → AreTold there after response → AreTold other after response
+told_of_same there other after response same h =
+    let both : there ≡ other = λ i id. same id i in
+    subst (λ (t : FragId → Bool). AreTold t after response) both h

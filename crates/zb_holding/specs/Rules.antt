@@ -147,15 +147,32 @@ IsRange (Some (share_size all)) len (told.Bytes bytes) = length bytes ≡ len
 IsRange (Some (parity_size lengths all)) len (told.Parity ls bytes) = (length ls ≡ lengths) × (length bytes ≡ len)
 IsRange size len response = ⊥
 
--- the place isn't the end of a share, or what is there is a parity, and its length is told
-pub record IsMisplaced (size : Option Size) (place : ℕ) (response : Response) : Type 0 where
-  pub len : ℕ
-  pub told : response ≡ told.Refused (Offset len)
-  pub elsewhere : (size ≡ Some (share_size len) × (place == len ≡ false)) ⊎ ((lengths : ℕ) × (size ≡ Some (parity_size lengths len)))
+-- how many bytes of this size are there
+abbrev pub len_of : Size → ℕ
+len_of (share_size len) = len
+len_of (parity_size lengths len) = len
+
+-- is this place the end of a share?
+abbrev pub is_end : Size → (place : ℕ) → Bool
+is_end (share_size len) place = place == len
+is_end (parity_size lengths len) place = false
+
+-- the place isn't the end of the share that is there, and the length of what is there is told
+pub record IsMisplaced (size : Option Size) (place : ℕ) (fault : StoreFault) : Type 0 where
+  pub there : Size
+  pub is : size ≡ Some there
+  pub told : fault ≡ Offset (len_of there)
+  pub elsewhere : is_end there place ≡ false
+
+-- the answer is this fault, by which bytes aren't appended
+pub record IsElsewhere (size : Option Size) (place : ℕ) (response : Response) : Type 0 where
+  pub fault : StoreFault
+  pub told : response ≡ told.Refused fault
+  pub misplaced : IsMisplaced size place fault
 
 -- the form of what a request is answered that the outline doesn't refuse
 abbrev pub HasForm : Outline → Request → Response → Type 0
-HasForm has (ask.Append id place bytes) response = (response ≡ told.Done) ⊎ IsMisplaced (has.sizes id) place response
+HasForm has (ask.Append id place bytes) response = (response ≡ told.Done) ⊎ IsElsewhere (has.sizes id) place response
 HasForm has (ask.Retrieve id place len) response = IsRange (has.sizes id) len response
 HasForm has (ask.Identify after) response = AreTold (λ id. is_some (has.sizes id)) after response
 HasForm has request response = response ≡ told.Done

@@ -13,7 +13,7 @@ use Rattle.zb_index.specs.Free.{once}
 use Rattle.zb_index.specs.Indexed.{Agree, StandsAt, spot_at}
 use Rattle.zb_index.specs.Changes.{IsMoved}
 use Rattle.zb_index.proofs.Counting.{once_same, once_other}
-use Rattle.zb_index.proofs.Naming.{same_frag-is, same_frag-of}
+use Rattle.zb_holding.proofs.Keys.{same_frag-is, same_frag-of}
 
 -- what a slot holds
 abbrev what : Slot → Option Stored

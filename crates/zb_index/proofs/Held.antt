@@ -15,7 +15,7 @@ use Rattle.zb_index.specs.Seen.{spot_of}
 use Rattle.zb_index.specs.Laws.{NotFoundNotHeld, FoundHeld, NamesAreHeldOnce, FreeAreCounted, DependsOnItsSlots}
 use Rattle.zb_index.proofs.Counting.{once_same, once_other}
 use Rattle.zb_index.proofs.Following.{Spots}
-use Rattle.zb_index.proofs.Naming.{same_frag-is, same_frag-of}
+use Rattle.zb_holding.proofs.Keys.{same_frag-is, same_frag-of}
 
 -- a full slot under its own name
 pub named_full : (stored : Stored) (id : FragId) → stored.id ≡ id → named id (full_slot stored) ≡ Some stored

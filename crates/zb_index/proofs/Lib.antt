@@ -1,9 +1,6 @@
 pub mod Counting
 pub mod Following
 pub mod Held
-pub mod Listing
 pub mod Moves
-pub mod Naming
-pub mod Saying
 pub mod Settling
 pub mod Twinning

@@ -20,7 +20,7 @@ use Rattle.zb_index.specs.Drafting.{kept_of, tidied_slot, tidied, AreOlderBelow,
 use Rattle.zb_index.proofs.Counting.{once_same, once_other}
 use Rattle.zb_index.proofs.Following.{Spots, Put, same_full, not_free, full_not_bad, free_not_bad}
 use Rattle.zb_index.proofs.Held.{named_full, named_is, named_none, depends}
-use Rattle.zb_index.proofs.Naming.{same_frag-is, same_frag-of}
+use Rattle.zb_holding.proofs.Keys.{same_frag-is, same_frag-of}
 use Rattle.zb_index.proofs.Twinning.{turns_differ}
 
 -- ---- one slot more

@@ -16,11 +16,11 @@ use Rattle.zb_index.specs.declared.holders.Holders.{Holders}
 use Rattle.zb_index.specs.declared.holders.Holders.TheVariants.{One, Two, More}
 use Rattle.zb_index.specs.Gathering.{holder_at, IsHeldBy, HoldsAs, IsOne, AreTwo, AreMore, AreHolders, AreGathered, Gathered, IsNewestAt, TellsNewest}
 use Rattle.zb_slots.specs.declared.header.Header.{Header}
-use Rattle.zb_index.specs.Shown.{Says, AreShownBy}
+use Rattle.zb_slots.specs.Shown.{Says, AreShownBy}
 use Rattle.zb_index.specs.Twins.{NoneIsBad}
 use Rattle.zb_index.proofs.Following.{same_full}
 use Rattle.zb_index.proofs.Held.{named_full}
-use Rattle.zb_index.proofs.Naming.{same_frag-is}
+use Rattle.zb_holding.proofs.Keys.{same_frag-is}
 
 -- where no slot is bad, two slots of one name have different turns
 pub turns_differ : (n i j : ℕ) (slots : ℕ → Slot) (a b : Stored) → NoneIsBad slots n → i < n → j < n → i ≢ j → slots i ≡ full_slot a → slots j ≡ full_slot b → a.id ≡ b.id → a.turn ≢ b.turn

@@ -1,17 +1,13 @@
 -- What follows for the slots that an index is the index of.
-use Rattle.std.specs.Prelude.{◌≡◌, ℕ, ◌<◌, ◌&&◌, length, Option, None, Some, is_some}
-use Rattle.std.specs.List.{list_any}
+use Rattle.std.specs.Prelude.{◌≡◌, ℕ, ◌<◌, length, None, Some}
 use Rattle.zb_types.specs.declared.ids.FragId.{FragId}
-use Rattle.zb_holding.specs.Carrying.{same_frag}
-use Rattle.zb_slots.specs.declared.header.Header.{Header}
-use Rattle.zb_slots.specs.Slots.{Slot, Stored, free_slot, full_slot, shown}
+use Rattle.zb_slots.specs.Slots.{Slot, Stored, free_slot, full_slot}
 use Rattle.zb_slots.specs.Holding.{named, held, free_count}
 use Rattle.zb_slots.specs.Laws.{NoneBut}
 use Rattle.zb_index.specs.declared.spot.Spot.{Spot}
 use Rattle.zb_index.specs.Free.{times}
 use Rattle.zb_index.specs.Indexed.{IsIndexOf, spot_at}
-use Rattle.zb_index.specs.Seen.{SeenIndex, spot_of, is_above, names_above}
-use Rattle.zb_index.specs.Shown.{Says}
+use Rattle.zb_index.specs.Seen.{SeenIndex, spot_of}
 
 -- none of the first n slots holds this name
 pub record IsHeldNowhere (n : ℕ) (slots : ℕ → Slot) (id : FragId) : Type 0 where
@@ -52,11 +48,3 @@ FreeAreFree = (index : SeenIndex) (n : ℕ) (slots : ℕ → Slot) (j : ℕ) →
 -- an index depends on the first n slots alone
 abbrev pub DependsOnItsSlots : Type 0
 DependsOnItsSlots = (index : SeenIndex) (n : ℕ) (slots other : ℕ → Slot) → ((j : ℕ) → j < n → other j ≡ slots j) → IsIndexOf index n slots → IsIndexOf index n other
-
--- a slot is as its header says, whatever its bytes
-abbrev pub SlotsAreShown : Type 0
-SlotsAreShown = (n : ℕ) (byte : ℕ → ℕ) (header : Option Header) → Says header (shown n byte header)
-
--- a name is one of those above another exactly where it is above it and held
-abbrev pub ListsWhatIsHeld : Type 0
-ListsWhatIsHeld = (index : SeenIndex) (after : Option FragId) (id : FragId) → list_any (same_frag id) (names_above after index) ≡ (is_above after id && is_some (spot_of index id))

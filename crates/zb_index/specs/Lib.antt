@@ -5,5 +5,4 @@ pub mod Gathering
 pub mod Indexed
 pub mod Laws
 pub mod Seen
-pub mod Shown
 pub mod Twins

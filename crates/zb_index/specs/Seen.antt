@@ -1,10 +1,7 @@
 -- What an index holds: names with where each stands, and the free slots.
-use Rattle.std.specs.Prelude.{ℕ, Bool, true, List, filter, Option, None, Some}
+use Rattle.std.specs.Prelude.{ℕ, Bool, List, Option, is_some}
 use Rattle.std.specs.List.Sorted.{IsStrictlySortedBy}
 use Rattle.std.specs.Map.{lookup, keys_of}
-use Rattle.std.specs.Ordering.{is_lt}
-use Rattle.std.specs.declared.ops.Bound.{Bound}
-use Rattle.std.specs.declared.ops.Bound.TheVariants.{Unbounded, Excluded}
 use Rattle.zb_types.specs.declared.ids.FragId.{FragId}
 use Rattle.zb_types.specs.Order.{frag_cmp}
 use Rattle.zb_holding.specs.Carrying.{same_frag}
@@ -31,20 +28,6 @@ spot_in entries id = lookup (same_frag id) entries
 abbrev pub spot_of : SeenIndex → FragId → Option Spot
 spot_of index id = spot_in index.entries id
 
--- is a name above another, or above none?
-abbrev pub is_above : Option FragId → FragId → Bool
-is_above None id = true
-is_above (Some after) id = is_lt (frag_cmp after id)
-
--- where the names above another begin
-abbrev pub start_above : Option FragId → Bound FragId
-start_above None = Unbounded
-start_above (Some after) = Excluded after
-
--- the names above another, in order
-abbrev pub names_above : Option FragId → SeenIndex → List FragId
-names_above after index = keys_of (filter (λ e. is_above after e.0) index.entries)
-
--- the most names of one answer
-abbrev pub most_names : ℕ
-most_names = 256
+-- is a name held?
+abbrev pub is_held : SeenIndex → FragId → Bool
+is_held index id = is_some (spot_of index id)

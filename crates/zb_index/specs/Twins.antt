@@ -17,10 +17,10 @@ pub record IsFirstBad (slots : ℕ → Slot) (n j : ℕ) : Type 0 where
   pub bad : IsBad slots n j
   pub first : (i : ℕ) → i < j → IsBad slots n i → ⊥
 
--- a fault that is no want of memory names the first bad slot
+-- a fault names the first bad slot, and is want of memory only where none is bad
 abbrev pub NamesFirstBad : (ℕ → Slot) → ℕ → IndexFault → Type 0
 NamesFirstBad slots n (Bad slot) = IsFirstBad slots n slot
-NamesFirstBad slots n NoMemory = Unit {0}
+NamesFirstBad slots n NoMemory = NoneIsBad slots n
 
 -- slot j, of n, holds the older of two parities: its name stands for one with another turn
 pub record IsOlder (slots : ℕ → Slot) (n j : ℕ) : Type 0 where

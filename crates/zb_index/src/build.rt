@@ -3,10 +3,10 @@ ghost use Rattle.zb_types.specs.declared.ids.FragId.{FragId};
 ghost use Rattle.zb_slots.specs.Slots.{Slot, Stored, full_slot};
 ghost use Rattle.zb_slots.specs.Holding.{held};
 ghost use Rattle.zb_index.specs.Drafting.{IsDraftOf};
-ghost use Rattle.zb_index.specs.Gathering.{AreGathered, IsHeldBy, TellsBad, TellsNewest};
+ghost use Rattle.zb_index.specs.Gathering.{AreGathered, AreHolders, IsHeldBy, TellsBad, TellsNewest};
 ghost use Rattle.zb_index.specs.Indexed.{IsIndexOf};
 ghost use Rattle.zb_index.specs.Seen.{IsInOrder};
-ghost use Rattle.zb_index.specs.Shown.{Says, AreShownBy};
+ghost use Rattle.zb_slots.specs.Shown.{Says, AreShownBy};
 ghost use Rattle.zb_index.specs.Twins.{NoneIsBad, NamesFirstBad, IsFirstBad, AreOlder, AreFreed};
 
 use crate::faults::IndexFault;
@@ -72,10 +72,69 @@ fn gathered(alloc: Global, headers: &[Option<Header>]) -> Mem<Names>
     Ok(names)
 }
 
+/// The holders of a name with the next slot, if it holds the name.
+fn with_next(
+    holders: Option<Holders>,
+    header: &Option<Header>,
+    slot: u32,
+    id: FragId,
+) -> Option<Holders>
+    ensures { (slots : ℕ → Slot) → Says header.now (slots slot) → AreHolders slot slots id holders
+        → AreHolders (slot + 1) slots id result }
+{
+    let Some(header) = header else {
+        return holders;
+    };
+    let Some((named, holder)) = holder_of(header, slot) else {
+        return holders;
+    };
+    if named != id {
+        return holders;
+    }
+    match holders {
+        None => Some(Holders::One { first: holder }),
+        Some(holders) => Some(holders.joined(holder)),
+    }
+}
+
+/// The slots that hold a name, by a look at all headers.
+fn holders_among(headers: &[Option<Header>], id: FragId) -> Option<Holders>
+    requires { length headers.now < 2 ^ 32 }
+    ensures { (slots : ℕ → Slot) → AreShownBy headers.now slots
+        → AreHolders (length headers.now) slots id result }
+{
+    let mut holders = None;
+    for (slot, header) in headers.iter().enumerate() {
+        holders = with_next(holders, header, slot as u32, id);
+    }
+    holders
+}
+
+/// The slots that hold a name: as they were gathered, or else by a look at all headers.
+fn holders_of(names: &Option<Names>, headers: &[Option<Header>], id: FragId) -> Option<Holders>
+    requires { length headers.now < 2 ^ 32 }
+    ensures { (slots : ℕ → Slot) → AreShownBy headers.now slots
+        → IfSome names.now (λ names. AreGathered (length headers.now) slots names.entries)
+        → AreHolders (length headers.now) slots id result }
+{
+    match names {
+        Some(names) => names.get(&id).copied(),
+        None => holders_among(headers, id),
+    }
+}
+
 /// Whether a slot is bad.
-fn is_bad(names: &Names, header: &Option<Header>, slot: u32) -> bool
-    ensures { (n : ℕ) (slots : ℕ → Slot) → AreGathered n slots names.now.entries → slot < n
-        → Says header.now (slots slot) → TellsBad slots n slot result }
+fn is_bad(
+    names: &Option<Names>,
+    headers: &[Option<Header>],
+    header: &Option<Header>,
+    slot: u32,
+) -> bool
+    requires { length headers.now < 2 ^ 32 }
+    ensures { (slots : ℕ → Slot) → AreShownBy headers.now slots
+        → IfSome names.now (λ names. AreGathered (length headers.now) slots names.entries)
+        → slot < length headers.now → Says header.now (slots slot)
+        → TellsBad slots (length headers.now) slot result }
 {
     let Some(header) = header else {
         return true;
@@ -83,23 +142,24 @@ fn is_bad(names: &Names, header: &Option<Header>, slot: u32) -> bool
     let Some((id, _)) = holder_of(header, slot) else {
         return false;
     };
-    match names.get(&id) {
+    match holders_of(names, headers, id) {
         None => false,
         Some(holders) => holders.is_bad(slot),
     }
 }
 
 /// The first slot that is bad.
-fn first_bad(names: &Names, headers: &[Option<Header>]) -> Option<u32>
+fn first_bad(names: &Option<Names>, headers: &[Option<Header>]) -> Option<u32>
     requires { length headers.now < 2 ^ 32 }
     ensures bad { IfSome result (λ slot. (slots : ℕ → Slot) → AreShownBy headers.now slots
-        → AreGathered (length headers.now) slots names.now.entries
+        → IfSome names.now (λ names. AreGathered (length headers.now) slots names.entries)
         → IsFirstBad slots (length headers.now) slot) }
     ensures good { IfNone result ((slots : ℕ → Slot) → AreShownBy headers.now slots
-        → AreGathered (length headers.now) slots names.now.entries → NoneIsBad slots (length headers.now)) }
+        → IfSome names.now (λ names. AreGathered (length headers.now) slots names.entries)
+        → NoneIsBad slots (length headers.now)) }
 {
     for (slot, header) in headers.iter().enumerate() {
-        if is_bad(names, header, slot as u32) {
+        if is_bad(names, headers, header, slot as u32) {
             return Some(slot as u32);
         }
     }
@@ -141,6 +201,7 @@ impl Draft {
         ensures count { length self.new.spots.entries + length self.new.free.slots
             ≤ length self.old.spots.entries + length self.old.free.slots + 1 }
         ensures room { self.new.free.room ≡ self.old.free.room }
+        ensures few { length self.new.older ≤ length self.old.older + 1 }
     {
         let Some(header) = header else {
             return Ok(());
@@ -162,7 +223,8 @@ impl Draft {
 /// The index of slots none of which is bad.
 fn settled(alloc: Global, names: &Names, headers: &[Option<Header>]) -> Mem<Built>
     requires { length headers.now < 2 ^ 32 }
-    ensures { IfOk result (λ built. (slots : ℕ → Slot) → AreShownBy headers.now slots
+    ensures few { IfOk result (λ built. length built.older ≤ length headers.now) }
+    ensures draft { IfOk result (λ built. (slots : ℕ → Slot) → AreShownBy headers.now slots
         → AreGathered (length headers.now) slots names.now.entries → NoneIsBad slots (length headers.now)
         → IsDraftOf built.index.entries built.index.free built.older slots (length headers.now)
         (length headers.now)) }
@@ -188,11 +250,13 @@ fn settled(alloc: Global, names: &Names, headers: &[Option<Header>]) -> Mem<Buil
 impl Index {
     /// The index of the slots with these headers, which are `None` for a bad one. Of two parities under one name,
     /// with different turns, the one counts whose turn follows the other's. `Bad` names the first slot that is
-    /// bad. Costs n log n for n slots.
+    /// bad, and `NoMemory` comes only where none is. Costs n log n for n slots; where memory runs out, each slot is
+    /// compared with all others.
     pub fn build(alloc: Global, headers: &[Option<Header>]) -> Result<Built, IndexFault>
         requires { length headers.now < 2 ^ 32 }
         ensures good { IfOk result (λ _. (slots : ℕ → Slot) → AreShownBy headers.now slots
             → NoneIsBad slots (length headers.now)) }
+        ensures few { IfOk result (λ built. length built.older ≤ length headers.now) }
         ensures older { IfOk result (λ built. (slots : ℕ → Slot) → AreShownBy headers.now slots
             → AreOlder slots (length headers.now) built.older) }
         ensures index { IfOk result (λ built. (slots now : ℕ → Slot) → AreShownBy headers.now slots
@@ -204,10 +268,16 @@ impl Index {
         ensures bad { IfErr result (λ fault. (slots : ℕ → Slot) → AreShownBy headers.now slots
             → NamesFirstBad slots (length headers.now) fault) }
     {
-        let names = gathered(alloc, headers)?;
+        let names = gathered(alloc, headers).ok();
         if let Some(slot) = first_bad(&names, headers) {
             return Err(IndexFault::Bad { slot });
         }
-        Ok(settled(alloc, &names, headers)?)
+        let Some(names) = names else {
+            return Err(IndexFault::NoMemory);
+        };
+        let Ok(built) = settled(alloc, &names, headers) else {
+            return Err(IndexFault::NoMemory);
+        };
+        Ok(built)
     }
 }

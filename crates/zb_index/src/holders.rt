@@ -2,11 +2,11 @@ ghost use Rattle.std.specs.Prelude.{◌≡◌, ℕ, ◌+◌, ◌<◌, Some, IsSo
 ghost use Rattle.zb_types.specs.declared.ids.FragId.{FragId};
 ghost use Rattle.zb_slots.specs.Slots.{Slot, Stored, full_slot};
 ghost use Rattle.zb_index.specs.Gathering.{ShowsHolder, IsHeldBy, AreHolders, TellsBad, IsNewestAt};
-ghost use Rattle.zb_index.specs.Shown.{Says};
+ghost use Rattle.zb_slots.specs.Shown.{Says};
 ghost use Rattle.zb_index.specs.Twins.{NoneIsBad};
 
-use crate::spot::{Spot, following};
-use zb_slots::Header;
+use crate::spot::Spot;
+use zb_slots::{Header, following};
 use zb_types::FragId;
 
 /// Where a fragment stands, and whether it is a parity.

@@ -1,36 +1,23 @@
-ghost use Rattle.std.specs.Prelude.{◌≡◌, ℕ, ◌+◌, ◌<◌, ◌≤◌, if◌then◌else◌, [], length, take, Option, None, Some, IsSome, IfOk, IfNone, IfSome, OnErr, OnOk};
-ghost use Rattle.std.specs.List.Sorted.{IsStrictlySortedBy};
+ghost use Rattle.std.specs.Prelude.{◌≡◌, ℕ, ◌+◌, ◌<◌, ◌≤◌, if◌then◌else◌, [], length, Option, None, Some, IsSome, IfOk, IfNone, IfSome, OnErr, OnOk};
 ghost use Rattle.std.specs.Option.{option_map};
-ghost use Rattle.zb_types.specs.Order.{frag_cmp};
 ghost use Rattle.zb_cell.specs.Cell.{following};
 ghost use Rattle.zb_slots.specs.Slots.{Slot, free_slot};
 ghost use Rattle.zb_index.specs.Free.{IsTaken, IsGiven, IsExchanged};
 ghost use Rattle.zb_types.specs.declared.ids.FragId.{FragId};
 ghost use Rattle.zb_holding.specs.Carrying.{same_frag};
-ghost use Rattle.zb_index.specs.Seen.{IsInOrder, spot_in, spot_of, start_above, names_above, most_names};
+ghost use Rattle.zb_holding.specs.Listing.{AreLeastAbove};
+ghost use Rattle.zb_index.specs.Seen.{IsInOrder, spot_in, spot_of, is_held};
 ghost use Rattle.zb_index.specs.Indexed.{IsIndexOf};
 ghost use Rattle.zb_index.specs.Changes.{IsPut, first_spot, lengthened, next_spot, FollowsFill, FollowsFree, FollowsMove};
 
 use crate::free::FreeSlots;
-use crate::spot::{Renewed, Spot, following};
+use crate::spot::{Renewed, Spot};
 use std::alloc::Global;
 use std::collections::BTreeMap;
 use std::marker::Model;
-use std::ops::Bound;
+use zb_holding::names_above;
+use zb_slots::following;
 use zb_types::{FragId, FragList, Mem};
-
-/// The most names of one answer.
-const MOST_NAMES: usize = 256;
-
-/// Where the names above another begin.
-fn start_above(after: Option<FragId>) -> Bound<FragId>
-    ensures { result ≡ start_above after }
-{
-    match after {
-        None => Bound::Unbounded,
-        Some(id) => Bound::Excluded(id),
-    }
-}
 
 /// Sets the spot of a name that is held.
 fn set_spot(spots: &mut BTreeMap<FragId, Spot>, id: FragId, spot: Spot)
@@ -166,16 +153,8 @@ impl Index {
     /// The least names above another, or of all names, in order: 256 at most. Costs what it lists and a
     /// logarithm of the names held.
     pub fn names_above(&self, alloc: Global, after: Option<FragId>) -> Mem<FragList>
-        ensures names { IfOk result (λ names. names ≡ take most_names (names_above after self.now)) }
-        ensures order { IfOk result (λ names. IsStrictlySortedBy frag_cmp names) }
+        ensures { IfOk result (AreLeastAbove (is_held self.now) after) }
     {
-        let mut names = Vec::new(alloc);
-        for (id, _) in self.spots.range((start_above(after), Bound::Unbounded)) {
-            if names.len() == MOST_NAMES {
-                return Ok(FragList::of(names));
-            }
-            names.push(*id)?;
-        }
-        Ok(FragList::of(names))
+        names_above(alloc, &self.spots, after)
     }
 }

@@ -1,4 +1,4 @@
-ghost use Rattle.zb_index.specs.Laws.{NotFoundNotHeld, FoundHeld, NamesAreHeldOnce, FreeAreCounted, FreeAreFree, DependsOnItsSlots, SlotsAreShown, ListsWhatIsHeld};
+ghost use Rattle.zb_index.specs.Laws.{NotFoundNotHeld, FoundHeld, NamesAreHeldOnce, FreeAreCounted, FreeAreFree, DependsOnItsSlots};
 
 /// A name that an index doesn't find is held by no slot.
 pub fn what_is_not_found_is_not_held()
@@ -28,14 +28,4 @@ pub fn free_slots_are_free()
 /// An index depends on its slots alone.
 pub fn an_index_depends_on_its_slots()
     ensures { DependsOnItsSlots }
-{}
-
-/// A slot is as its header says, whatever its bytes.
-pub fn slots_are_shown_by_headers()
-    ensures { SlotsAreShown }
-{}
-
-/// The names above another are those held that are above it.
-pub fn held_names_are_listed()
-    ensures { ListsWhatIsHeld }
 {}

@@ -8,15 +8,12 @@ mod holders;
 mod index;
 mod laws;
 mod spot;
-#[cfg(test)]
-mod tests;
 
 pub use build::{Built, SlotList};
 pub use faults::IndexFault;
 pub use index::Index;
 pub use laws::{
     an_index_depends_on_its_slots, free_slots_are_counted, free_slots_are_free,
-    held_names_are_listed, names_are_held_once, slots_are_shown_by_headers, what_is_found_is_held,
-    what_is_not_found_is_not_held,
+    names_are_held_once, what_is_found_is_held, what_is_not_found_is_not_held,
 };
 pub use spot::{Renewed, Spot};

@@ -1,6 +1,3 @@
-ghost use Rattle.std.specs.Prelude.{◌≡◌};
-ghost use Rattle.zb_cell.specs.Cell.{following};
-
 /// Where a fragment stands: its slot, from 0; its turn, 0 to 2 of a parity and 0 of a share; its length in
 /// bytes.
 #[derive(Clone, Copy, Debug, PartialEq, Eq)]
@@ -15,11 +12,4 @@ pub struct Spot {
 pub struct Renewed {
     pub former: Spot,
     pub slot: u32,
-}
-
-/// The turn that follows.
-pub(crate) fn following(turn: u8) -> u8
-    ensures { result ≡ following turn }
-{
-    ((u16::from(turn) + 1) % 3) as u8
 }

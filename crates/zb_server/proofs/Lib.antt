@@ -1,6 +1,5 @@
-pub mod Between
 pub mod Answered
-pub mod Looking
 pub mod Behind
+pub mod Looking
 pub mod Risen
 pub mod Served

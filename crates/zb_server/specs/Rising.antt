@@ -1,17 +1,17 @@
 -- What a node that is brought up does.
-use Rattle.std.specs.Prelude.{◌≡◌, ◌⊎◌, ◌<◌, false, ℕ, List, Result, Ok, Err, OnOk, IfOk, IfErr}
+use Rattle.std.specs.Prelude.{◌≡◌, ◌≢◌, ◌⊎◌, false, ℕ, List, Result, Ok, Err, IfOk, IfErr}
 use Rattle.zb_outside.specs.Meaning.{Meaning}
 use Rattle.zb_outside.specs.Runs.{Run}
 use Rattle.zb_types.specs.declared.geometry.Geometry.{Geometry}
 use Rattle.zb_types.specs.declared.ids.FragId.{FragId}
 use Rattle.zb_types.specs.declared.ids.ServerId.{ServerId}
-use Rattle.zb_platter.specs.Tidy.{slots_in, map_of, IsLarge}
-use Rattle.zb_slots.specs.Holding.{IsBad}
 use Rattle.zb_fragstore.specs.declared.faults.OpenFault.{OpenFault}
 use Rattle.zb_fragstore.specs.declared.faults.OpenFault.TheVariants as fault
+use Rattle.zb_fragstore.specs.declared.faults.OpenFault.TheVariants.{Stopped}
 use Rattle.zb_fragstore.specs.Seen.{SeenStore, IsStoreOf}
+use Rattle.zb_fragstore.specs.Images.{map_on, IsWhole}
 use Rattle.zb_fragstore.specs.Changing.{map_in, IsOpen}
-use Rattle.zb_fragstore.specs.Opening.{IsUnfit, IsFoundFirst, StaysWhole}
+use Rattle.zb_fragstore.specs.Opening.{IsGood, IsUnfit, StaysWhole}
 use Rattle.zb_server.specs.declared.server.Server.{Server}
 use Rattle.zb_server.specs.declared.server.Server.TheVariants.{Up, Down, Blank}
 
@@ -33,37 +33,35 @@ abbrev pub Leaves : Geometry → ServerId → Result (Unit {0}) OpenFault → Se
 Leaves geo server (Ok done) new = IsUpAgain geo server new
 Leaves geo server (Err why) new = new ≡ away why
 
--- the platter came back with an image that it might leave; at each moment it has such an image, or that one with the same
--- map; and where its store isn't opened, the fault is that of the image
-pub record CameBack {T : Type 0} (geo : Geometry) (server : ServerId) (result : Result T OpenFault) (a b : Meaning) : Type 0 where
-  pub image : List ℕ
-  pub left : a.now.may_leave server.0 image
-  pub run : Run server.0 (λ other. a.now.may_leave server.0 other ⊎ StaysWhole geo image other) a b
-  pub good : OnOk result ((j : ℕ) → j < geo.slots → IsBad (slots_in geo image) geo.slots j → ⊥)
-  pub unfit : IfErr result (IsUnfit geo server image)
-  pub first : IfErr result (IsFoundFirst geo server image)
+-- every image that the platter might leave has room for all that a server keeps
+abbrev pub AreWhole : Geometry → ServerId → Meaning → Type 0
+AreWhole geo server a = (image : List ℕ) → a.now.may_leave server.0 image → IsWhole geo image
 
 -- the store is open, and its map is that of this image
 pub record IsOpenOn (geo : Geometry) (image : List ℕ) (b : Meaning) (store : SeenStore) : Type 0 where
   pub is_open : IsOpen store b.now
-  pub map : (id : FragId) → map_in store b.now id ≡ map_of geo image id
+  pub map : (id : FragId) → map_in store b.now id ≡ map_on geo image id
 
--- the node is up with such a store
-abbrev pub IsUpOn : Geometry → List ℕ → Meaning → Server → Type 0
-IsUpOn geo image b (Up store mending) = IsOpenOn geo image b store
-IsUpOn geo image b Down = ⊥
-IsUpOn geo image b Blank = ⊥
-
--- a platter came back, and a store was opened on it
+-- a platter came back with an image that it might leave. The outcome is that of this image: a store is opened on it that is this
+-- server's, or the fault is true of it. After a fault other than a stop the platter still may have any image that it might leave;
+-- and if those have room, it has at each moment one of them or this one with the same map and fence, and the store that was opened
+-- has its map
 pub record Reopens (geo : Geometry) (server : ServerId) (result : Result SeenStore OpenFault) (a b : Meaning) : Type 0 where
-  pub back : CameBack geo server result a b
-  pub is_open : IfOk result (IsOpenOn geo back.image b)
+  pub image : List ℕ
+  pub left : a.now.may_leave server.0 image
+  pub good : IfOk result (IsGood geo server image)
+  pub unfit : IfErr result (IsUnfit geo server image)
+  pub looked : IfErr result (λ fault. fault ≢ Stopped → Run server.0 (a.now.may_leave server.0) a b)
+  pub run : AreWhole geo server a → Run server.0 (λ other. a.now.may_leave server.0 other ⊎ StaysWhole geo image other) a b
+  pub is_open : AreWhole geo server a → IfOk result (IsOpenOn geo image b)
 
--- a platter came back, and a node was brought up with its store
+-- what came of bringing a node up, by its store
+abbrev pub risen : Result SeenStore OpenFault → Result (Unit {0}) OpenFault × Server
+risen (Ok store) = (Ok tt, Up store false)
+risen (Err why) = (Err why, away why)
+
+-- a store was opened on the platter that came back, or wasn't, and the node and the outcome are those
 pub record Rises (geo : Geometry) (server : ServerId) (result : Result (Unit {0}) OpenFault) (new : Server) (a b : Meaning) : Type 0 where
-  pub back : CameBack geo server result a b
-  pub is_open : OnOk result (IsUpOn geo back.image b new)
-
--- every image that the platter might leave has room for all slots
-abbrev pub AreLarge : Geometry → ServerId → Meaning → Type 0
-AreLarge geo server a = (image : List ℕ) → a.now.may_leave server.0 image → IsLarge geo image
+  pub opening : Result SeenStore OpenFault
+  pub reopens : Reopens geo server opening a b
+  pub comes : (result, new) ≡ risen opening

@@ -1,8 +1,7 @@
 -- What a server's node does with a request, moment by moment.
-use Rattle.std.specs.Prelude.{◌≡◌, ◌≢◌, ◌≤◌, ℕ, Bool, false, not}
+use Rattle.std.specs.Prelude.{◌≡◌, ℕ, Bool, true, false, not}
 use Rattle.zb_outside.specs.Meaning.{Meaning}
 use Rattle.zb_outside.specs.Runs.{Run}
-use Rattle.zb_outside.specs.Streams.{Rose}
 use Rattle.zb_types.specs.declared.geometry.Geometry.{Geometry}
 use Rattle.zb_types.specs.declared.ids.ServerId.{ServerId}
 use Rattle.zb_types.specs.declared.requests.Request.{Request}
@@ -10,7 +9,8 @@ use Rattle.zb_types.specs.declared.requests.Response.{Response}
 use Rattle.zb_types.specs.declared.requests.Response.TheVariants as told
 use Rattle.zb_fragstore.specs.Seen.{SeenStore, IsStoreOf}
 use Rattle.zb_server.specs.Asking.{FitsSystem}
-use Rattle.zb_server.specs.Answering.{IsBetween, HasAnswered}
+use Rattle.zb_fragstore.specs.Changing.{IsBetween}
+use Rattle.zb_server.specs.Answering.{HasAnswered}
 use Rattle.zb_server.specs.declared.server.Server.{Server}
 use Rattle.zb_server.specs.declared.server.Server.TheVariants.{Up, Down, Blank}
 
@@ -55,8 +55,7 @@ pub record Serves (store : SeenStore) (mending : Bool) (generation : ℕ) (reque
   pub run : Run store.server.0 (IsBetween store request (a.now.seen store.server.0)) a b
   pub answered : (now : SeenStore) → new ≡ Up now mending → HasAnswered store generation request now response a b
 
--- a node goes down only where the count of its platter's failed calls rose, and no other count moves
-pub record HasCause (p : ℕ) (new : Server) (before now : ℕ → ℕ) : Type 0 where
-  pub down : new ≡ Down → Rose (before p) (now p)
-  pub later : before p ≤ now p
-  pub others : (q : ℕ) → q ≢ p → now q ≡ before q
+-- did the node go down?
+abbrev pub is_down : Server → Bool
+is_down Down = true
+is_down node = false

@@ -1,11 +1,11 @@
-ghost use Rattle.std.specs.Prelude.{◌≡◌, ◌≢◌, ℕ, take, true, false, IsTrue, IfOk, IfErr};
-ghost use Rattle.zb_types.specs.declared.requests.Response.TheVariants as told;
-ghost use Rattle.zb_fragstore.specs.Seen.{IsStoreOf};
-ghost use Rattle.zb_fragstore.specs.Answers.{HasStopped};
-ghost use Rattle.zb_fragstore.specs.Changing.{IsOpen, HasCause};
-ghost use Rattle.zb_server.specs.Asking.{FitsSystem};
-ghost use Rattle.zb_index.specs.Seen.{names_above, most_names};
-ghost use Rattle.zb_server.specs.Answering.{done, said, Answers};
+ghost use Rattle.std.specs.Prelude.{◌≡◌, true, false, IsTrue, IfOk, IfErr};
+ghost use Rattle.zb_outside.specs.Counts.{Touches};
+ghost use Rattle.zb_holding.specs.Rules.{AreTold};
+ghost use Rattle.zb_fragstore.specs.Seen.{IsStoreOf, is_there};
+ghost use Rattle.zb_fragstore.specs.Answers.{HasStopped, is_stopped};
+ghost use Rattle.zb_fragstore.specs.Changing.{IsOpen};
+ghost use Rattle.zb_server.specs.Asking.{FitsSystem, most_writes};
+ghost use Rattle.zb_server.specs.Answering.{done, said, IsKnown, Answers};
 
 use std::alloc::Global;
 use zb_fragstore::FragStore;
@@ -14,7 +14,7 @@ use zb_types::{FragId, Request, Response, StoreFault};
 
 // The names above this one, as an answer.
 fn identify(store: &FragStore, alloc: Global, after: Option<FragId>) -> Result<Response, StoreFault>
-    ensures ids { IfOk result (λ response. response ≡ told.Ids (take most_names (names_above after store.now.index))) }
+    ensures ids { IfOk result (AreTold (is_there store.now) after) }
     ensures fault { IfErr result (λ fault. fault ≡ StoreFault.NoMemory) }
 {
     match store.identify(alloc, after) {
@@ -61,10 +61,8 @@ pub fn answer<B: Bay>(
     ensures told { IsTrue B.tells → IsOpen store.old (B.meaning bay.old).now
         → Answers store.old generation request.now store.new result (B.meaning bay.old) (B.meaning bay.new) }
     ensures system { IsStoreOf store.old.geo store.old.server store.new }
-    ensures cause { HasCause store.old.server.0 result (B.faults bay.old) (B.faults bay.new) }
-    ensures writes { (q : ℕ) → q ≢ store.old.server.0 → B.writes bay.new q ≡ B.writes bay.old q }
-    ensures streams { B.streams bay.new ≡ B.streams bay.old }
-    ensures follows { B.follows bay.old bay.new }
+    ensures known { (HasStopped result → ⊥) → IsKnown store.old generation request.now store.new (said result) }
+    ensures touches { Touches B.counts B.follows store.old.server.0 (most_writes request.now) (is_stopped result) bay.old bay.new }
 {
     match request {
         Request::Store { id, bytes, class } => {

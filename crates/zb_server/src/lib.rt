@@ -3,7 +3,5 @@
 
 mod answers;
 mod server;
-#[cfg(test)]
-mod tests;
 
 pub use server::Server;

@@ -1,11 +1,14 @@
-ghost use Rattle.std.specs.Prelude.{◌≡◌, ◌≢◌, ◌⊎◌, ℕ, Bool, IsTrue, IfOk};
+ghost use Rattle.std.specs.Prelude.{◌≡◌, ◌⊎◌, ◌*◌, Bool, IsTrue, IfOk};
+ghost use Rattle.zb_outside.specs.Counts.{Touches, GoesOn};
 ghost use Rattle.zb_types.specs.declared.geometry.Geometry.{Geometry as SeenGeometry};
 ghost use Rattle.zb_types.specs.declared.ids.ServerId.{ServerId as SeenServerId};
 ghost use Rattle.zb_fragstore.specs.Seen.{SeenStore, IsStoreOf};
 ghost use Rattle.zb_fragstore.specs.Changing.{IsOpen};
-ghost use Rattle.zb_fragstore.specs.Opening.{HasCause as OpenCause};
-ghost use Rattle.zb_server.specs.Serving.{MayServe, IsNodeOf, IsAway, crashed, WentDown, StaysUp, Serves, HasCause, is_serving};
-ghost use Rattle.zb_server.specs.Rising.{away, Leaves, Reopens, Rises, AreLarge};
+ghost use Rattle.zb_fragstore.specs.Opening.{opening_stopped};
+ghost use Rattle.zb_server.specs.Asking.{most_writes};
+ghost use Rattle.zb_server.specs.Answering.{IsKnown};
+ghost use Rattle.zb_server.specs.Serving.{MayServe, IsNodeOf, IsAway, crashed, WentDown, StaysUp, Serves, is_down, is_serving};
+ghost use Rattle.zb_server.specs.Rising.{away, Leaves, Reopens, Rises};
 
 use crate::answers::{answer, has_stopped, said};
 use std::alloc::Global;
@@ -31,12 +34,8 @@ fn reopened<B: Bay>(
     server: ServerId,
 ) -> Result<FragStore, OpenFault>
     ensures is { IfOk result (IsStoreOf geo.now server) }
-    ensures told { IsTrue B.tells → AreLarge geo.now server (B.meaning bay.old)
-        → Reopens geo.now server result (B.meaning bay.old) (B.meaning bay.new) }
-    ensures cause { OpenCause server.0 result (B.faults bay.old) (B.faults bay.new) }
-    ensures writes { (q : ℕ) → q ≢ server.0 → B.writes bay.new q ≡ B.writes bay.old q }
-    ensures streams { B.streams bay.new ≡ B.streams bay.old }
-    ensures follows { B.follows bay.old bay.new }
+    ensures told { IsTrue B.tells → Reopens geo.now server result (B.meaning bay.old) (B.meaning bay.new) }
+    ensures touches { Touches B.counts B.follows server.0 (3 * geo.now.slots) (opening_stopped result) bay.old bay.new }
 {
     bay.restart(usize::from(server.0))?;
     FragStore::open(alloc, bay, geo, server)
@@ -76,12 +75,11 @@ impl Server {
         ensures blank { self.old ≡ Server.Blank → result ≡ Response.Blank }
         ensures same { IsAway self.old → self.new ≡ self.old }
         ensures still { IsAway self.old → bay.new ≡ bay.old }
-        ensures cause { (store : SeenStore) (mending : Bool) → self.old ≡ Server.Up store mending
-            → HasCause store.server.0 self.new (B.faults bay.old) (B.faults bay.new) }
-        ensures writes { (store : SeenStore) (mending : Bool) → self.old ≡ Server.Up store mending
-            → (q : ℕ) → q ≢ store.server.0 → B.writes bay.new q ≡ B.writes bay.old q }
-        ensures streams { B.streams bay.new ≡ B.streams bay.old }
-        ensures follows { B.follows bay.old bay.new }
+        ensures known { (store : SeenStore) (mending : Bool) → self.old ≡ Server.Up store mending
+            → (now : SeenStore) → self.new ≡ Server.Up now mending → IsKnown store generation request.now now result }
+        ensures touches { (store : SeenStore) (mending : Bool) → self.old ≡ Server.Up store mending
+            → Touches B.counts B.follows store.server.0 (most_writes request.now) (is_down self.new) bay.old bay.new }
+        ensures goes_on { GoesOn B.counts B.follows bay.old bay.new }
     {
         let answered = match self {
             Server::Up { store, .. } => answer(store, alloc, bay, generation, request),
@@ -114,12 +112,8 @@ impl Server {
         server: ServerId,
     ) -> Result<(), OpenFault>
         ensures leaves { Leaves geo.now server result self.new }
-        ensures told { IsTrue B.tells → AreLarge geo.now server (B.meaning bay.old)
-            → Rises geo.now server result self.new (B.meaning bay.old) (B.meaning bay.new) }
-        ensures cause { OpenCause server.0 result (B.faults bay.old) (B.faults bay.new) }
-        ensures writes { (q : ℕ) → q ≢ server.0 → B.writes bay.new q ≡ B.writes bay.old q }
-        ensures streams { B.streams bay.new ≡ B.streams bay.old }
-        ensures follows { B.follows bay.old bay.new }
+        ensures told { IsTrue B.tells → Rises geo.now server result self.new (B.meaning bay.old) (B.meaning bay.new) }
+        ensures touches { Touches B.counts B.follows server.0 (3 * geo.now.slots) (opening_stopped result) bay.old bay.new }
     {
         match reopened(alloc, bay, geo, server) {
             Ok(store) => {

@@ -1,3 +1,11 @@
+pub mod Bodies
+pub mod Chunks
+pub mod Fills
 pub mod Held
+pub mod Leaving
+pub mod Numbers
 pub mod Placed
+pub mod Saying
+pub mod Shares
+pub mod Shows
 pub mod Texts

@@ -1,10 +1,11 @@
 -- What slots hold under names, and how many are free.
-use Rattle.std.specs.Prelude.{◌≡◌, ◌≢◌, ◌⊎◌, ℕ, zero, suc, ◌+◌, ◌<◌, ◌==◌, if◌then◌else◌, List, Option, None, Some}
+use Rattle.std.specs.Prelude.{◌≡◌, ◌≢◌, ◌⊎◌, ℕ, zero, suc, ◌+◌, ◌<◌, ◌≤◌, ◌==◌, if◌then◌else◌, List, length, Option, None, Some}
 use Rattle.zb_cell.specs.Cell.{following}
+use Rattle.zb_types.specs.declared.geometry.Geometry.{Geometry}
 use Rattle.zb_types.specs.declared.ids.FragId.{FragId}
 use Rattle.zb_holding.specs.Carrying.{same_frag}
 use Rattle.zb_holding.specs.Fragments.{Fragment, share_fragment, parity_fragment}
-use Rattle.zb_slots.specs.Slots.{Stored, Slot, bad_slot, free_slot, full_slot, slots_of}
+use Rattle.zb_slots.specs.Slots.{Stored, Slot, bad_slot, free_slot, full_slot, slot_place, slots_of}
 
 -- what a slot holds under this name
 abbrev pub named : FragId → Slot → Option Stored
@@ -70,3 +71,15 @@ pub record Repeats (slots : ℕ → Slot) (n j : ℕ) : Type 0 where
 -- slot j, of n, is bad: by its header alone, or by a lower slot
 abbrev pub IsBad : (ℕ → Slot) → (n j : ℕ) → Type 0
 IsBad slots n j = (slots j ≡ bad_slot) ⊎ Repeats slots n j
+
+-- the fragments that an image holds
+abbrev pub map_of : Geometry → List ℕ → FragId → Option Fragment
+map_of geo image = fragments_of geo.servers geo.fragment geo.slots image
+
+-- how many slots of an image are free
+abbrev pub free_of : Geometry → List ℕ → ℕ
+free_of geo image = free_slots geo.servers geo.fragment geo.slots image
+
+-- all slots lie within the image
+abbrev pub IsLarge : Geometry → List ℕ → Type 0
+IsLarge geo image = slot_place geo.fragment geo.slots ≤ length image

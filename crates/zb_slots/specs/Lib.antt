@@ -1,4 +1,10 @@
+pub mod Area
+pub mod Changing
+pub mod Filling
 pub mod Headers
 pub mod Holding
 pub mod Laws
+pub mod Reading
+pub mod Showing
+pub mod Shown
 pub mod Slots

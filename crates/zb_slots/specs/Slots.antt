@@ -1,6 +1,7 @@
 -- What the slots of a server's platter hold: a slot has its header cell of 128 bytes, the lengths area of 64 and the body.
 use Rattle.std.specs.Prelude.{ℕ, zero, suc, ◌+◌, ◌-◌, ◌*◌, List, [], ◌∷◌, Option, None, Some}
 use Rattle.zb_cell.specs.Cell.{window, value_of, bytes_at}
+use Rattle.zb_types.specs.declared.geometry.Geometry.{Geometry}
 use Rattle.zb_types.specs.declared.ids.FragId.{FragId}
 use Rattle.zb_holding.specs.Fragments.{Fragment, share_fragment, parity_fragment}
 use Rattle.zb_slots.specs.Headers.{said}
@@ -56,3 +57,7 @@ slot_of n f image place = slot_in n f (bytes_at image place)
 -- slot j
 abbrev pub slots_of : (n f : ℕ) → List ℕ → ℕ → Slot
 slots_of n f image j = slot_of n f image (slot_place f j)
+
+-- the slots of an image
+abbrev pub slots_in : Geometry → List ℕ → ℕ → Slot
+slots_in geo image = slots_of geo.servers geo.fragment image

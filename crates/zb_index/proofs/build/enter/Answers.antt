@@ -1,7 +1,7 @@
 use Rattle.std.proofs.Common.{◌+◌, Some, sym, ◌∙◌, subst}
 use Rattle.zb_index.specs.declared.holders.Holders.{Holders}
 use Rattle.zb_index.specs.Gathering.{AreHolders}
-use Rattle.zb_index.proofs.Naming.{found_is, put_by}
+use Rattle.zb_holding.proofs.Keys.{found_is, put_by}
 use Rattle.zb_index.proofs.Twinning.{next_one, gathered_next}
 use Rattle.zb_index.proofs.build.enter.Goals as goal
 use Rattle.zb_index.proofs.build.enter.Goals.{in-None, in-Some}

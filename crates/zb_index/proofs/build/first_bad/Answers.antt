@@ -8,7 +8,7 @@ pub returns-then-is_bad-clause-bad : goal.returns-then-is_bad-clause-bad
 returns-then-is_bad-clause-bad c slots shown all =
     let headers = c.args.headers.now in
     let slot = c.loop-slot.slot in
-    let tells = c.is_bad.ensures (length headers) slots all c.loop-slot-test.true (says_at headers slots shown slot _ c.loop-slot-test.true) in
+    let tells = c.is_bad.ensures slots shown all c.loop-slot-test.true (says_at headers slots shown slot _ c.loop-slot-test.true) in
     record {
       within = c.loop-slot-test.true;
       bad = tells.bad c.if-is_bad.true;
@@ -19,7 +19,7 @@ pub loop-slot-preserved : goal.loop-slot-preserved
 loop-slot-preserved c slots shown all i lt bad =
     let headers = c.args.headers.now in
     let slot = c.loop-slot.slot in
-    let tells = c.is_bad.ensures (length headers) slots all c.loop-slot-test.true (says_at headers slots shown slot _ c.loop-slot-test.true) in
+    let tells = c.is_bad.ensures slots shown all c.loop-slot-test.true (says_at headers slots shown slot _ c.loop-slot-test.true) in
     elim (cases_lt i slot) [
       | inl less ↦ c.loop-slot.invariant slots shown all i less bad
       | inr past ↦

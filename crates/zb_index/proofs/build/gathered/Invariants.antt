@@ -1,7 +1,7 @@
 use Rattle.std.proofs.Common.{ℕ}
 use Rattle.zb_slots.specs.Slots.{Slot}
 use Rattle.zb_index.specs.Gathering.{AreGathered}
-use Rattle.zb_index.specs.Shown.{AreShownBy}
+use Rattle.zb_slots.specs.Shown.{AreShownBy}
 use Rattle.zb_index.proofs.build.gathered.Given as goal
 
 abbrev pub invariant-loop-slot : goal.invariant-loop-slot

@@ -1,7 +1,7 @@
 use Rattle.std.proofs.Common.{sym, ◌∙◌, subst}
 use Rattle.std.proofs.lemmas.Bool.{eqb-true, eqb-false}
 use Rattle.zb_index.specs.Gathering.{AreHolders}
-use Rattle.zb_index.proofs.Naming.{found_is}
+use Rattle.zb_holding.proofs.Keys.{found_is}
 use Rattle.zb_index.proofs.Twinning.{never_none, tells_newest}
 use Rattle.zb_index.proofs.build.is_newest.Goals as goal
 

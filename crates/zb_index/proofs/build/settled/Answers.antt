@@ -14,10 +14,11 @@ loop-slot-preserved c =
       order = settle.order before.order;
       count = omega (arith, settle.count, before.count);
       room = settle.room ∙ before.room;
+      few = omega (arith, settle.few, before.few);
     }
 
-pub returns : goal.returns
-returns c slots shown all good =
+pub returns-clause-draft : goal.returns-clause-draft
+returns-clause-draft c slots shown all good =
     let draft = c.loop-slot.draft in
     let n = length c.args.headers.now in
     let e : c.loop-slot.slot ≡ n = omega (arith, c.loop-slot-test.false, c.loop-slot.auto.slot-end) in

@@ -3,7 +3,7 @@ use Rattle.zb_slots.specs.Slots.{Slot}
 use Rattle.zb_index.specs.Drafting.{IsDraftOf}
 use Rattle.zb_index.specs.Gathering.{AreGathered}
 use Rattle.zb_index.specs.Seen.{IsInOrder}
-use Rattle.zb_index.specs.Shown.{AreShownBy}
+use Rattle.zb_slots.specs.Shown.{AreShownBy}
 use Rattle.zb_index.specs.Twins.{NoneIsBad}
 use Rattle.zb_index.proofs.build.settled.Given as goal
 
@@ -14,4 +14,5 @@ invariant-loop-slot l = record {
   order : IsInOrder l.draft.spots.entries;
   count : length l.draft.spots.entries + length l.draft.free.slots ≤ l.slot;
   room : l.draft.free.room ≡ length l.headers;
+  few : length l.draft.older ≤ l.slot;
 }

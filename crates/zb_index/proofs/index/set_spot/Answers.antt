@@ -1,7 +1,7 @@
 use Rattle.std.proofs.Common.{Option, Some, sym, subst}
 use Rattle.std.specs.Prelude.{IsSome}
 use Rattle.zb_index.specs.declared.spot.Spot.{Spot}
-use Rattle.zb_index.proofs.Naming.{put_by, found_is}
+use Rattle.zb_holding.proofs.Keys.{put_by, found_is}
 use Rattle.zb_index.proofs.index.set_spot.Goals as goal
 
 pub returns-in-Some-clause-put : goal.returns-in-Some-clause-put

@@ -1,52 +1,84 @@
-use Rattle.std.proofs.Common.{refl}
+use Rattle.std.proofs.Common.{refl, ap, sym, ◌∙◌}
 use Rattle.zb_types.specs.declared.requests.Request.TheVariants as ask
-use Rattle.zb_server.proofs.Answered.{carried, raised, fence_kept, fence_grown, answers_by, answers_done}
-use Rattle.zb_server.proofs.Behind.{answers_append}
-use Rattle.zb_server.proofs.Looking.{retrieved, named}
+use Rattle.zb_types.specs.declared.requests.Response.{Response}
+use Rattle.zb_types.specs.declared.requests.Response.TheVariants as told
+use Rattle.zb_holding.specs.Rules.{IsServed, HasForm}
+use Rattle.zb_fragstore.specs.Seen.{known, holding}
+use Rattle.zb_fragstore.specs.Changing.{map_in}
+use Rattle.zb_fragstore.proofs.Outlined.{refusal_is}
+use Rattle.zb_server.proofs.Answered.{Said, carried, known_of, may_answer, served_by, done_by, fence_kept, fence_grown, fence_raised, free_raised, free_less, free_parity, runs_too}
+use Rattle.zb_server.proofs.Behind.{answers_append, append_known}
+use Rattle.zb_server.proofs.Looking.{retrieved, retrieved_known, named, named_known}
 use Rattle.zb_server.proofs.answers.answer.Goals as goal
 
--- src/answers.rt:53:1
 pub returns-in-Store-clause-told : goal.returns-in-Store-clause-told
 returns-in-Store-clause-told g c tells is_open =
+    let request = ask.Store c.in-Store.id c.slice.result.now c.in-Store.class in
+    let old = c.args.store.now in
+    let r = c.store.result in
+    let map = map_in old (g.B.Bay.meaning c.args.bay.now).now in
     rw (c.in-Store.is, ← c.slice.ensures, c.done.ensures)
-    (carried (ask.Store c.in-Store.id c.slice.result.now c.in-Store.class) c.args.generation _ _ _ _ c.store.result (c.store.ensures.told tells is_open) (fence_kept _ _ _ _ c.store.result c.store.ensures.stored) c.store.ensures.same
-    (answers_by (ask.Store c.in-Store.id c.slice.result.now c.in-Store.class) c.args.generation _ (g.B.Bay.meaning c.args.bay.now) c.store.result refl tt c.store.ensures.refused c.store.ensures.taken))
+    (carried request c.args.generation old c.store.new.self (g.B.Bay.meaning c.args.bay.now) _ is_open c.store.ensures.system r (c.store.ensures.told tells is_open)
+    (fence_kept _ _ _ _ r c.store.ensures.stored, (free_less _ _ r c.store.ensures.free, c.store.ensures.same))
+    (λ runs. may_answer request c.args.generation old map (Said r) (refusal_is old _ is_open c.args.generation request) (λ fault e. ap Said (c.store.ensures.refused fault e))
+    (λ none. served_by request (IsServed (holding old map) request) r refl tt (c.store.ensures.taken none) runs)))
 
--- src/answers.rt:53:1
 pub returns-in-Append-clause-told : goal.returns-in-Append-clause-told
 returns-in-Append-clause-told g c tells is_open =
+    let request = ask.Append c.in-Append.id c.in-Append.place c.slice-in-Append.result.now in
+    let old = c.args.store.now in
+    let r = c.append.result in
+    let map = map_in old (g.B.Bay.meaning c.args.bay.now).now in
     rw (c.in-Append.is, ← c.slice-in-Append.ensures, c.done-in-Append.ensures)
-    (carried (ask.Append c.in-Append.id c.in-Append.place c.slice-in-Append.result.now) c.args.generation _ _ _ _ c.append.result (c.append.ensures.told tells is_open) (fence_grown _ _ _ _ _ c.append.result c.append.ensures.grown) c.append.ensures.same
-    (answers_append _ _ _ c.args.generation _ (g.B.Bay.meaning c.args.bay.now) c.append.result is_open c.append.ensures.refused (c.append.ensures.answer tells is_open)))
+    (carried request c.args.generation old c.append.new.self (g.B.Bay.meaning c.args.bay.now) _ is_open c.append.ensures.system r (c.append.ensures.told tells is_open)
+    (fence_grown _ _ _ _ _ r c.append.ensures.grown, (c.append.ensures.free, c.append.ensures.same))
+    (answers_append _ _ _ c.args.generation _ (g.B.Bay.meaning c.args.bay.now) r is_open c.append.ensures.refused (c.append.ensures.answer tells is_open)))
 
--- src/answers.rt:53:1
 pub returns-in-Parity-clause-told : goal.returns-in-Parity-clause-told
 returns-in-Parity-clause-told g c tells is_open =
+    let request = ask.Parity c.in-Parity.id c.slice-lengths.result.now c.slice-bytes.result.now c.in-Parity.class in
+    let old = c.args.store.now in
+    let r = c.replace_parity.result in
+    let map = map_in old (g.B.Bay.meaning c.args.bay.now).now in
     rw (c.in-Parity.is, ← c.slice-lengths.ensures, ← c.slice-bytes.ensures, c.done-in-Parity.ensures)
-    (carried (ask.Parity c.in-Parity.id c.slice-lengths.result.now c.slice-bytes.result.now c.in-Parity.class) c.args.generation _ _ _ _ c.replace_parity.result (c.replace_parity.ensures.told tells is_open) (fence_kept _ _ _ _ c.replace_parity.result c.replace_parity.ensures.stored) c.replace_parity.ensures.same
-    (answers_by (ask.Parity c.in-Parity.id c.slice-lengths.result.now c.slice-bytes.result.now c.in-Parity.class) c.args.generation _ (g.B.Bay.meaning c.args.bay.now) c.replace_parity.result refl tt c.replace_parity.ensures.refused c.replace_parity.ensures.taken))
+    (carried request c.args.generation old c.replace_parity.new.self (g.B.Bay.meaning c.args.bay.now) _ is_open c.replace_parity.ensures.system r (c.replace_parity.ensures.told tells is_open)
+    (fence_kept _ _ _ _ r c.replace_parity.ensures.stored, (free_parity _ _ _ r c.replace_parity.ensures.free, c.replace_parity.ensures.same))
+    (λ runs. may_answer request c.args.generation old map (Said r) (refusal_is old _ is_open c.args.generation request) (λ fault e. ap Said (c.replace_parity.ensures.refused fault e))
+    (λ none. served_by request (IsServed (holding old map) request) r refl tt (c.replace_parity.ensures.taken none) runs)))
 
--- src/answers.rt:53:1
 pub returns-in-Retrieve-clause-told : goal.returns-in-Retrieve-clause-told
 returns-in-Retrieve-clause-told g c tells is_open =
     rw (c.in-Retrieve.is, c.retrieve.ensures.same)
-    (retrieved _ _ _ c.args.generation _ (g.B.Bay.meaning c.args.bay.now) _ c.retrieve.result is_open (c.retrieve.ensures.told tells) c.retrieve.ensures.refused c.retrieve.ensures.taken (c.retrieve.ensures.found tells is_open))
+    (retrieved _ _ _ c.args.generation _ c.retrieve.result c.retrieve.ensures.refused c.retrieve.ensures.taken (g.B.Bay.meaning c.args.bay.now) _ is_open (c.retrieve.ensures.told tells) (c.retrieve.ensures.found tells is_open))
 
--- src/answers.rt:53:1
 pub returns-in-Delete-clause-told : goal.returns-in-Delete-clause-told
 returns-in-Delete-clause-told g c tells is_open =
+    let request = ask.Delete c.in-Delete.id in
+    let old = c.args.store.now in
+    let r = c.delete.result in
+    let map = map_in old (g.B.Bay.meaning c.args.bay.now).now in
     rw (c.in-Delete.is, c.done-in-Delete.ensures)
-    (carried (ask.Delete c.in-Delete.id) c.args.generation _ _ _ _ c.delete.result (c.delete.ensures.told tells is_open) (fence_kept _ _ _ _ c.delete.result c.delete.ensures.deleted) c.delete.ensures.same
-    (answers_done (ask.Delete c.in-Delete.id) c.args.generation _ (g.B.Bay.meaning c.args.bay.now) c.delete.result refl c.delete.ensures.refused c.delete.ensures.taken))
+    (carried request c.args.generation old c.delete.new.self (g.B.Bay.meaning c.args.bay.now) _ is_open c.delete.ensures.system r (c.delete.ensures.told tells is_open)
+    (fence_kept _ _ _ _ r c.delete.ensures.deleted, (c.delete.ensures.free, c.delete.ensures.same))
+    (λ runs. may_answer request c.args.generation old map (Said r) (refusal_is old _ is_open c.args.generation request) (λ fault e. ap Said (c.delete.ensures.refused fault e))
+    (λ none. done_by request (IsServed (holding old map) request) r refl (c.delete.ensures.taken none) runs)))
 
--- src/answers.rt:53:1
 pub returns-in-Identify-clause-told : goal.returns-in-Identify-clause-told
 returns-in-Identify-clause-told g c tells is_open =
-    rw c.in-Identify.is (named c.in-Identify.after c.args.generation _ (g.B.Bay.meaning c.args.bay.now) c.identify.result is_open c.identify.ensures.ids c.identify.ensures.fault)
+    rw c.in-Identify.is (named c.in-Identify.after c.args.generation _ c.identify.result c.identify.ensures.ids c.identify.ensures.fault (g.B.Bay.meaning c.args.bay.now) is_open)
 
--- src/answers.rt:53:1
+pub returns-in-Identify-clause-known : goal.returns-in-Identify-clause-known
+returns-in-Identify-clause-known g c runs =
+    rw c.in-Identify.is (named_known c.in-Identify.after c.args.generation _ c.identify.result c.identify.ensures.ids c.identify.ensures.fault runs)
+
 pub returns-in-Fence-clause-told : goal.returns-in-Fence-clause-told
 returns-in-Fence-clause-told g c tells is_open =
+    let request = ask.Fence c.in-Fence.generation in
+    let old = c.args.store.now in
+    let r = c.fence.result in
+    let map = map_in old (g.B.Bay.meaning c.args.bay.now).now in
     rw (c.in-Fence.is, c.done-in-Fence.ensures)
-    (raised c.in-Fence.generation c.args.generation _ _ _ _ c.fence.result (c.fence.ensures.told tells is_open) c.fence.ensures.raised c.fence.ensures.same
-    (answers_done (ask.Fence c.in-Fence.generation) c.args.generation _ (g.B.Bay.meaning c.args.bay.now) c.fence.result refl c.fence.ensures.refused c.fence.ensures.taken))
+    (carried request c.args.generation old c.fence.new.self (g.B.Bay.meaning c.args.bay.now) _ is_open c.fence.ensures.system r (c.fence.ensures.told tells is_open)
+    (fence_raised c.in-Fence.generation old c.fence.new.self r c.fence.ensures.raised, (free_raised c.in-Fence.generation old c.fence.new.self r c.fence.ensures.raised, c.fence.ensures.same))
+    (λ runs. may_answer request c.args.generation old map (Said r) (refusal_is old _ is_open c.args.generation request) (λ fault e. ap Said (c.fence.ensures.refused fault e))
+    (λ none. done_by request (IsServed (holding old map) request) r refl (c.fence.ensures.taken none) runs)))

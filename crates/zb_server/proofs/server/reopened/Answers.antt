@@ -1,8 +1,7 @@
 use Rattle.zb_server.proofs.Risen.{back_by}
 use Rattle.zb_server.proofs.server.reopened.Goals as goal
 
--- src/server.rt:27:1
 pub returns-clause-told : goal.returns-clause-told
-returns-clause-told g c tells large =
-    back_by _ _ (g.B.Bay.meaning c.args.bay.now) _ _ _ (rw c.from.ensures at (c.in_ok-restart.ensures.told tells)) large (c.open.ensures.told tells) c.open.result c.open.ensures.is (c.open.ensures.good tells) (c.open.ensures.unfit tells)
-    (c.open.ensures.first tells) (c.open.ensures.is_open tells)
+returns-clause-told g c tells =
+    back_by _ _ (g.B.Bay.meaning c.args.bay.now) _ _ _ (rw c.from.ensures at (c.in_ok-restart.ensures.told tells)) (c.open.ensures.told tells) c.open.result c.open.ensures.is (c.open.ensures.good tells) (c.open.ensures.unfit tells)
+    (c.open.ensures.looked tells) (c.open.ensures.is_open tells)

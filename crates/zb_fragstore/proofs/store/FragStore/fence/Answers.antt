@@ -1,12 +1,12 @@
 use Rattle.std.proofs.Common.{ap, ◌∙◌, refl}
 use Rattle.zb_fragstore.specs.Seen.{SeenStore}
-use Rattle.zb_fragstore.proofs.Refused.{fence_refused_by, fence_kept_at}
+use Rattle.zb_fragstore.proofs.Refused.{refused_by, fence_kept_at}
 use Rattle.zb_fragstore.proofs.Fences.{fence_told}
 use Rattle.zb_fragstore.proofs.store.FragStore.fence.Goals as goal
 
 -- src/change.rt:98:9
 pub returns-in_err-check_generation-clause-told : goal.returns-in_err-check_generation-clause-told
-returns-in_err-check_generation-clause-told g c tells is_open = fence_refused_by _ _ _ _ c.from_residual.ensures.0 is_open
+returns-in_err-check_generation-clause-told g c tells is_open = refused_by _ _ _ _ c.from_residual.ensures.0 is_open
 
 -- src/change.rt:100:13
 pub returns-then-generation-self-clause-told : goal.returns-then-generation-self-clause-told

@@ -1,7 +1,7 @@
 use Rattle.std.proofs.Common.{sym}
 use Rattle.zb_fragstore.proofs.Refused.{refused_by}
 use Rattle.std.proofs.Common.{subst}
-use Rattle.zb_slot.specs.Area.{IsArea}
+use Rattle.zb_slots.specs.Area.{IsArea}
 use Rattle.zb_fragstore.proofs.Told.{parity_given}
 use Rattle.zb_fragstore.proofs.store.FragStore.replace_parity.Goals as goal
 

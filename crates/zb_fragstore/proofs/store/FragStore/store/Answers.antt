@@ -33,5 +33,5 @@ returns-clause-least g c = if_ok c.or_stopped.result (takes_least c.args.id c.in
 pub returns-clause-told : goal.returns-clause-told
 returns-clause-told g c tells is_open =
     stored _ _ _ _ _ _ _ _ c.or_stopped.ensures c.take_slot.ensures.rest is_open
-    (ap (λ (s : SeenStore). s.geo) (c.self-2.view_is ∙ c.take_slot.ensures.rest)) (c.platter.ensures ∙ ap (λ (s : SeenStore). s.server.0) c.take_slot.ensures.rest)
-    _ _ _ _ (ap (λ (s : SeenStore). is_there s c.args.id) (sym c.self.view_is) ∙ ap is_some (sym c.find.ensures) ∙ sym c.is_some.ensures ∙ c.if-is_some.false) c.in_ok-slot.ensures.taken (c.store_at.ensures.told tells)
+    (ap (λ (s : SeenStore). s.geo) (c.self.view_is ∙ c.take_slot.ensures.rest)) (c.platter.ensures ∙ ap (λ (s : SeenStore). s.server.0) c.take_slot.ensures.rest)
+    _ _ _ _ (ap is_some (sym c.find.ensures.spot) ∙ sym c.is_some.ensures ∙ c.if-is_some.false) c.in_ok-slot.ensures.taken (c.store_at.ensures.told tells)

@@ -6,9 +6,9 @@ use Rattle.zb_index.specs.Drafting.{AreOlderBelow, tidied}
 use Rattle.zb_index.specs.Free.{times}
 use Rattle.zb_index.specs.Indexed.{spot_at}
 use Rattle.zb_index.specs.Seen.{spot_in}
-use Rattle.zb_index.specs.Shown.{Says}
+use Rattle.zb_slots.specs.Shown.{Says}
 use Rattle.zb_index.proofs.Following.{Put, not_free}
-use Rattle.zb_index.proofs.Naming.{put_by}
+use Rattle.zb_holding.proofs.Keys.{put_by}
 use Rattle.zb_index.proofs.Settling.{more_free, more_full, tidied_free, tidied_newest, tidied_older, tidied_once, newest_not_older, older_past, older_more}
 use Rattle.zb_index.proofs.build.Draft.settle.Goals as goal
 

@@ -2,7 +2,7 @@ use Rattle.std.proofs.Common.{Some, ap, ◌∙◌}
 use Rattle.std.proofs.lemmas.Option.{IfSome_then}
 use Rattle.zb_index.specs.Seen.{SeenIndex, spot_of}
 use Rattle.zb_index.specs.Changes.{first_spot}
-use Rattle.zb_index.proofs.Naming.{put_by}
+use Rattle.zb_holding.proofs.Keys.{put_by}
 use Rattle.zb_index.proofs.Moves.{follows_add, put_taken}
 use Rattle.zb_index.proofs.index.Index.add.Goals as goal
 

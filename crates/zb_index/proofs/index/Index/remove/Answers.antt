@@ -1,6 +1,6 @@
 use Rattle.std.proofs.Common.{None, sym, ◌∙◌}
 use Rattle.zb_index.specs.Seen.{SeenIndex}
-use Rattle.zb_index.proofs.Naming.{put_by, found_is}
+use Rattle.zb_holding.proofs.Keys.{put_by, found_is}
 use Rattle.zb_index.proofs.Moves.{follows_remove}
 use Rattle.zb_index.proofs.index.Index.remove.Goals as goal
 

@@ -1,6 +1,5 @@
-use Rattle.zb_server.proofs.Risen.{risen}
+use Rattle.std.proofs.Common.{Ok, refl}
 use Rattle.zb_server.proofs.server.Server.up.Goals as goal
 
--- src/server.rt:106:5
 pub returns-in-Ok-clause-told : goal.returns-in-Ok-clause-told
-returns-in-Ok-clause-told g c tells large = risen _ _ (g.B.Bay.meaning c.args.bay.now) _ _ (c.in-Ok.ensures.told tells large)
+returns-in-Ok-clause-told g c tells = record { opening = Ok c.in-Ok.store; reopens = c.in-Ok.ensures.told tells; comes = refl }

@@ -1,4 +1,0 @@
-pub mod Changing
-pub mod Super
-pub mod Tidy
-pub mod Zeros

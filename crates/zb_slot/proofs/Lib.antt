@@ -1,4 +1,0 @@
-pub mod Fills
-pub mod Numbers
-pub mod Saying
-pub mod Shares

@@ -1,5 +1,0 @@
-use Rattle.zb_slot.proofs.Saying.{said_stands}
-use Rattle.zb_slot.proofs.header_cell.header.Goals as goal
-
-pub returns-in-Ok-clause-stands : goal.returns-in-Ok-clause-stands
-returns-in-Ok-clause-stands g c = said_stands c.args.geo.now.servers c.args.geo.now.fragment c.in-Ok.payload _ c.read_header.ensures

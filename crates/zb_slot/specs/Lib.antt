@@ -1,3 +1,0 @@
-pub mod Area
-pub mod Changing
-pub mod Filling

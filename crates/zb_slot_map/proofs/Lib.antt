@@ -1,0 +1,9 @@
+pub mod Changes
+pub mod Fencing
+pub mod Going
+pub mod Knowing
+pub mod Names
+pub mod Pairs
+pub mod Replaced
+pub mod Replacing
+pub mod Wiping

@@ -1,0 +1,5 @@
+pub mod Changing
+pub mod Freeing
+pub mod Super
+pub mod Tidy
+pub mod Zeros

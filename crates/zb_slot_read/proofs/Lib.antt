@@ -1,4 +1,0 @@
-pub mod Bodies
-pub mod Chunks
-pub mod Leaving
-pub mod Shows

@@ -1,6 +1,0 @@
-use Rattle.std.proofs.Common.{slice_index}
-use Rattle.zb_slot_read.proofs.Bodies.{number_pushed}
-use Rattle.zb_slot_read.proofs.parity.numbers_from.Goals as goal
-
-pub loop-i-preserved : goal.loop-i-preserved
-loop-i-preserved c = number_pushed (slice_index c.args.area.now) c.loop-i.i c.four_from.result c.loop-i.numbers.items _ c.in_ok-push.ensures.items c.loop-i.invariant c.four_from.ensures

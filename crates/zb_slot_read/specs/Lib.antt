@@ -1,3 +1,0 @@
-pub mod Reading
-pub mod Showing
-pub mod Standing

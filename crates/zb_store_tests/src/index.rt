@@ -1,0 +1,134 @@
+use crate::system::{PARITY, SHARE};
+use std::alloc::Global;
+use std::test::Fail;
+use zb_index::{Index, IndexFault, Renewed, Spot};
+use zb_slots::Header;
+use zb_types::{FragId, LogId};
+
+const LATER: FragId = FragId {
+    log: LogId(1),
+    stripe: 8,
+    index: 0,
+};
+
+/// A parity's header with this turn.
+fn parity(turn: u8) -> Option<Header> {
+    Some(Header::Parity {
+        id: PARITY,
+        turn,
+        len: 9,
+    })
+}
+
+const FREE: Option<Header> = Some(Header::Free);
+
+/// A share's header.
+const HELD: Option<Header> = Some(Header::Share { id: SHARE, len: 5 });
+
+/// Where the parity stands, the first slot of an older one, and how many slots are free.
+type Standing = (Option<u32>, Option<u32>, u32);
+
+/// Headers, and what is built of them, or the first bad slot.
+type Row = ([Option<Header>; 4], Result<Standing, u32>);
+
+fn build_rows() -> [Row; 9] {
+    [
+        ([FREE, HELD, FREE, FREE], Ok((None, None, 3))),
+        (
+            [parity(0), HELD, FREE, parity(1)],
+            Ok((Some(3), Some(0), 2)),
+        ),
+        (
+            [parity(1), HELD, FREE, parity(0)],
+            Ok((Some(0), Some(3), 2)),
+        ),
+        (
+            [parity(0), parity(2), FREE, HELD],
+            Ok((Some(0), Some(1), 2)),
+        ),
+        ([FREE, None, HELD, None], Err(1)),
+        ([HELD, FREE, HELD, None], Err(2)),
+        ([parity(1), FREE, parity(1), FREE], Err(2)),
+        ([parity(0), parity(1), parity(2), FREE], Err(1)),
+        ([parity(0), HELD, parity(1), parity(2)], Err(2)),
+    ]
+}
+
+/// What is built of these headers.
+fn outcome(alloc: Global, headers: &[Option<Header>; 4]) -> Result<Standing, IndexFault> {
+    let built = Index::build(alloc, headers)?;
+    let stands = built.index.find(PARITY).map(|spot| spot.slot);
+    Ok((stands, built.older.get(0).copied(), built.index.free()))
+}
+
+#[test]
+fn an_index_is_built_or_names_the_first_bad_slot(rt: HostRuntime) {
+    for (headers, wanted) in build_rows() {
+        let told = outcome(rt.alloc(), &headers);
+        assert_eq!(rt; told, wanted.map_err(|slot| IndexFault::Bad { slot }));
+    }
+}
+
+#[test]
+fn a_fragment_is_added_grown_and_removed(rt: HostRuntime) -> Result<(), Fail> {
+    let mut index = Index::empty(rt.alloc(), 2)?;
+    assert_eq!(rt; index.free(), 2);
+    if index.find(SHARE).is_none() {
+        assert_eq!(rt; index.add(SHARE, 5)?, Some(0));
+    }
+    if index.find(SHARE).is_some() {
+        index.grow(SHARE, 8);
+    }
+    let wanted = Spot {
+        slot: 0,
+        turn: 0,
+        len: 8,
+    };
+    assert_eq!(rt; index.find(SHARE), Some(wanted));
+    assert_eq!(rt; index.remove(SHARE), Some(wanted));
+    assert_eq!(rt; index.remove(SHARE), None);
+    assert_eq!(rt; index.free(), 2);
+    Ok(())
+}
+
+#[test]
+fn a_parity_is_renewed_in_the_least_free_slot(rt: HostRuntime) -> Result<(), Fail> {
+    let mut built = Index::build(rt.alloc(), &[parity(2), HELD, FREE, FREE]).ok();
+    if let Some(built) = &mut built {
+        let former = Spot {
+            slot: 0,
+            turn: 2,
+            len: 9,
+        };
+        if built.index.find(PARITY).is_some() {
+            let renewed = built.index.renew(PARITY, 4);
+            assert_eq!(rt; renewed, Some(Renewed { former, slot: 2 }));
+        }
+        let next = Spot {
+            slot: 2,
+            turn: 0,
+            len: 4,
+        };
+        assert_eq!(rt; built.index.find(PARITY), Some(next));
+    }
+    assert!(rt; built.is_some());
+    Ok(())
+}
+
+#[test]
+fn names_are_listed_above_another(rt: HostRuntime) -> Result<(), Fail> {
+    let mut index = Index::empty(rt.alloc(), 3)?;
+    for id in [LATER, PARITY, SHARE] {
+        if index.find(id).is_none() {
+            assert!(rt; index.add(id, 1)?.is_some());
+        }
+    }
+    let all = index.names_above(rt.alloc(), None)?;
+    assert_eq!(rt; all.slice(), [SHARE, PARITY, LATER].as_slice());
+    let above = index.names_above(rt.alloc(), Some(SHARE))?;
+    assert_eq!(rt; above.slice(), [PARITY, LATER].as_slice());
+    if index.find(LATER).is_some() {
+        assert!(rt; index.renew(LATER, 1).is_none());
+    }
+    Ok(())
+}

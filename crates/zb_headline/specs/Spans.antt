@@ -83,12 +83,12 @@ pub record IsOvertaken (sight : Sight) (Span : Moment → Type 0) (server : ℕ)
   pub mends : Sees Span (λ images. sight.mends images server generation)
   pub after : Sees Span (λ images. sight.generation images later)
 
--- What is seen at the moments of a span. The write that blows a fuse isn't passed on to the device, whose writes a moment
--- counts.
+-- What is seen at the moments of a span. The write that blows a fuse is passed on to the device, whose writes a moment
+-- counts; those that the blown fuse holds back aren't.
 abbrev pub shown_in : Course → List Outcome → (Moment → Type 0) → Shown
 shown_in c before Span = record {
   rose = λ platter n. HasRisen c (λ m. m.faults platter) (take n before) Span 1;
-  wrote = λ platter n k. HasRisen c (λ m. m.writes platter) (take n before) Span (k - 1);
+  wrote = λ platter n k. HasRisen c (λ m. m.writes platter) (take n before) Span k;
   unfit = λ i. Sees Span (λ images. c.sight.unfit images i);
   released = λ log stripe. Sees Span (λ images. c.sight.holds images log stripe → ⊥);
   named = λ i. Sees Span (λ images. c.sight.names images i);

@@ -1,7 +1,7 @@
 use Rattle.std.proofs.Common.{ℕ, List, take, drop, sym, ap, subst, ◌∙◌}
 use Rattle.zb_blocks.specs.Blocks.{SeenBlocks, IsStored}
 use Rattle.zb_blocks.proofs.Standings.{within_stripe, held_at, same_stored, bytes_in}
-use Rattle.zb_blocks.proofs.stored.Blocks.get.Goals as goal
+use Rattle.zb_blocks.proofs.blocks.Blocks.get.Goals as goal
 
 pub read-requires-clause-room : goal.read-requires-clause-room
 read-requires-clause-room c =

@@ -7,7 +7,7 @@ use Rattle.zb_blocks.proofs.Addresses.{going}
 use Rattle.zb_blocks.proofs.Keeping.{KeepsStripes}
 use Rattle.zb_blocks.proofs.Stores.{parts_fit, parts_differ, parts_begin, parts_last, put_sound, put_extends, blocks_at}
 use Rattle.zb_blocks.proofs.Failures.{left_sound, left_same}
-use Rattle.zb_blocks.proofs.stored.Blocks.put.Goals as goal
+use Rattle.zb_blocks.proofs.blocks.Blocks.put.Goals as goal
 
 pub commit-requires-clause-fits : goal.commit-requires-clause-fits
 commit-requires-clause-fits c =

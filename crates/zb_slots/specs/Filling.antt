@@ -39,6 +39,7 @@ pub record FormerOrFilled (n f place at : ℕ) (bytes : List ℕ) (header : Head
   pub outside : SameBeside place (192 + f) old new
   pub either : (slot_of n f new place ≡ slot_of n f old place) ⊎ Filled n f place at bytes header old new
 
+-- on the way the slot is as before or filled so; after Ok it is filled, and no write is unsynced
 pub record FillTold {T E : Type 0} (n f p place at : ℕ) (bytes : List ℕ) (header : Header) (result : Result T E) (old new : Meaning) : Type 0 where
   pub run : Run p (FormerOrFilled n f place at bytes header (old.now.seen p)) old new
   pub settled : OnOk result (IsSettled p new.now)

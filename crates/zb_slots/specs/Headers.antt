@@ -21,6 +21,7 @@ judged n f kind id turn length =
 abbrev pub said : (n f : ℕ) → List ℕ → Option Header
 said n f payload = judged n f (slice_index payload 13) (name_in payload) (slice_index payload 14) (big_from 16 4 payload)
 
+-- forty bytes: the name, the kind, the turn, a zero, the length and zeros
 abbrev pub payload_text : FragId → (kind turn length : ℕ) → List ℕ
 payload_text id kind turn length = big_bytes 4 id.log.0 ++ big_bytes 8 id.stripe ++ (id.index ∷ kind ∷ turn ∷ 0 ∷ []) ++ big_bytes 4 length ++ replicate 20 0
 

@@ -24,6 +24,7 @@ abbrev pub held : (ℕ → Slot) → ℕ → FragId → Option Stored
 held slots zero id = None
 held slots (suc n) id = newer (held slots n id) (named id (slots n))
 
+-- the fragment that is stored, if one is
 abbrev pub fragment_of : Option Stored → Option Fragment
 fragment_of None = None
 fragment_of (Some stored) = Some stored.fragment
@@ -32,6 +33,7 @@ fragment_of (Some stored) = Some stored.fragment
 abbrev pub fragments_of : (n f slots : ℕ) → List ℕ → FragId → Option Fragment
 fragments_of n f slots image id = fragment_of (held (slots_of n f image) slots id)
 
+-- 1 for a free slot, else 0
 abbrev pub free_in : Slot → ℕ
 free_in bad_slot = 0
 free_in free_slot = 1
@@ -46,6 +48,7 @@ free_count slots (suc n) = free_count slots n + free_in (slots n)
 abbrev pub free_slots : (n f slots : ℕ) → List ℕ → ℕ
 free_slots n f slots image = free_count (slots_of n f image) slots
 
+-- it is a parity
 abbrev pub IsParity : Fragment → Type 0
 IsParity (share_fragment bytes) = ⊥
 IsParity (parity_fragment lengths bytes) = Unit {0}

@@ -1,10 +1,8 @@
 use Rattle.zb_fragstore.proofs.Refused.{refused, refused_by}
 use Rattle.zb_fragstore.proofs.store.FragStore.append.Goals as goal
 
--- src/append.rt:120:9
 pub returns-in_err-check_generation-clause-told : goal.returns-in_err-check_generation-clause-told
 returns-in_err-check_generation-clause-told g c tells is_open = refused_by _ _ _ _ c.from_residual.ensures.0 is_open
 
--- src/append.rt:122:13
 pub returns-in_default-clause-told : goal.returns-in_default-clause-told
 returns-in_default-clause-told g c tells is_open = refused _ _ _ _ is_open

@@ -5,26 +5,22 @@ use Rattle.zb_fragstore.proofs.Answered.{looked_ok, StandsClause, stands_is, ans
 use Rattle.zb_fragstore.proofs.Looked.{then_refused}
 use Rattle.zb_fragstore.proofs.store.FragStore.append_at_spot.Goals as goal
 
--- src/append.rt:72:12
 pub returns-in_err-or_stopped-clause-told : goal.returns-in_err-or_stopped-clause-told
 returns-in_err-or_stopped-clause-told g c tells is_open =
     stopped_told _ _ _ _ _ _ _ c.from_residual.ensures.0 (rw c.platter.ensures at (c.stands_at-stands.ensures.told tells)) is_open
 
--- src/append.rt:73:13
 pub returns-then-branch-clause-answer : goal.returns-then-branch-clause-answer
 returns-then-branch-clause-answer g c tells is_open =
     answer_kept _ (g.B.Bay.meaning c.args.bay.now) _ _ _ _ is_open c.requires.there _ (stands_is _ (g.B.Bay.meaning c.args.bay.now) _ _ _ _ is_open c.requires.there c.self.inside.geo c.platter.result _ (ap (λ (s : SeenStore). s.geo) c.self.view_is) c.platter.ensures
     (looked_ok (StandsClause (g.B.Bay.meaning c.args.bay.now) c.args.spot.slot c.args.spot.len c.args.place c.args.bytes.now c.self.inside.geo c.platter.result) _ _ _
     c.or_stopped.ensures c.in_ok-or_stopped.was (c.stands_at-stands.ensures.stands tells))) tt c.if-branch.true
 
--- src/append.rt:73:13
 pub returns-then-branch-clause-told : goal.returns-then-branch-clause-told
 returns-then-branch-clause-told g c tells is_open =
     kept_told _ (g.B.Bay.meaning c.args.bay.now) _ _ _ _ is_open c.requires.there _ (stands_is _ (g.B.Bay.meaning c.args.bay.now) _ _ _ _ is_open c.requires.there c.self.inside.geo c.platter.result _ (ap (λ (s : SeenStore). s.geo) c.self.view_is) c.platter.ensures
     (looked_ok (StandsClause (g.B.Bay.meaning c.args.bay.now) c.args.spot.slot c.args.spot.len c.args.place c.args.bytes.now c.self.inside.geo c.platter.result) _ _ _
     c.or_stopped.ensures c.in_ok-or_stopped.was (c.stands_at-stands.ensures.stands tells))) tt _ c.if-branch.true (rw c.platter.ensures at (c.stands_at-stands.ensures.told tells))
 
--- src/append.rt:76:13
 pub returns-then-place-spot-clause-answer : goal.returns-then-place-spot-clause-answer
 returns-then-place-spot-clause-answer g c tells is_open =
     answer_misplaced _ (g.B.Bay.meaning c.args.bay.now) _ _ _ _ is_open c.requires.there _ (stands_is _ (g.B.Bay.meaning c.args.bay.now) _ _ _ _ is_open c.requires.there c.self.inside.geo c.platter.result _ (ap (λ (s : SeenStore). s.geo) c.self.view_is) c.platter.ensures
@@ -35,15 +31,12 @@ returns-then-place-spot-clause-answer g c tells is_open =
       | then-place-spot-via-else-place-spot+then-not-is_share w ↦ λ share end. absurd (cc (w.if-not-is_share.ensures ∙ share))
     ])
 
--- src/append.rt:76:13
 pub returns-then-place-spot-clause-told : goal.returns-then-place-spot-clause-told
 returns-then-place-spot-clause-told g c tells is_open = then_refused _ _ _ (rw c.platter.ensures at (c.stands_at-stands.ensures.told tells)) is_open _ _
 
--- src/append.rt:46:5
 pub returns-clause-answer : goal.returns-clause-answer
 returns-clause-answer g c tells is_open = answer_put _ (g.B.Bay.meaning c.args.bay.now) _ _ _ _ is_open c.requires.there _ (sym c.is_share.ensures ∙ c.if-not-is_share.false) c.if-place-spot.false c.put_behind.ensures.answer
 
--- src/append.rt:46:5
 pub returns-clause-told : goal.returns-clause-told
 returns-clause-told g c tells is_open =
     put_told _ (g.B.Bay.meaning c.args.bay.now) _ _ _ _ is_open c.requires.there _ _ _ _ c.if-place-spot.false (rw c.platter.ensures at (c.stands_at-stands.ensures.told tells)) (c.put_behind.ensures.told tells)

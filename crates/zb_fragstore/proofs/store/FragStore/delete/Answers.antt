@@ -6,11 +6,9 @@ use Rattle.zb_fragstore.proofs.Refused.{refused}
 use Rattle.zb_fragstore.proofs.Told.{deleted}
 use Rattle.zb_fragstore.proofs.store.FragStore.delete.Goals as goal
 
--- src/change.rt:76:13
 pub returns-in_default-clause-told : goal.returns-in_default-clause-told
 returns-in_default-clause-told g c tells is_open = rw c.in_default.ensures.same (refused (ask.Delete c.args.id) c.args.self.now fault.NoFragment (g.B.Bay.meaning c.args.bay.now) is_open)
 
--- src/change.rt:60:5
 pub returns-clause-told : goal.returns-clause-told
 returns-clause-told g c tells is_open =
     deleted _ _ _ _ _ _ _ _ c.or_stopped.ensures c.give_slot.ensures.rest is_open

@@ -5,7 +5,6 @@ use Rattle.std.proofs.lemmas.List.{length-drop}
 use Rattle.zb_fragstore.proofs.Found.{last_is_parity}
 use Rattle.zb_fragstore.proofs.store.FragStore.next_parity.Goals as goal
 
--- src/parity.rt:50:5
 pub returns-clause-told : goal.returns-clause-told
 returns-clause-told g c tells is_open class =
     moved _ _ _ _ _ _ _ _ c.or_stopped.ensures c.move_slot-moved.ensures.rest is_open

@@ -4,11 +4,9 @@ use Rattle.zb_fragstore.proofs.Taken.{if_ok, changes_length}
 use Rattle.zb_fragstore.proofs.Appended.{grown}
 use Rattle.zb_fragstore.proofs.store.FragStore.put_behind.Goals as goal
 
--- src/append.rt:22:5
 pub returns-clause-grown : goal.returns-clause-grown
 returns-clause-grown g c = if_ok c.or_stopped.result (changes_length c.args.id _ _ _ _ c.lengthen.ensures.rest refl c.lengthen.ensures.longer.put)
 
--- src/append.rt:22:5
 pub returns-clause-told : goal.returns-clause-told
 returns-clause-told g c tells is_open =
     grown _ _ _ _ _ _ _ _ _ c.args.spot _ c.or_stopped.ensures c.lengthen.ensures.rest is_open

@@ -3,7 +3,6 @@ use Rattle.zb_fragstore.specs.Seen.{SeenStore}
 use Rattle.zb_fragstore.proofs.Retrieved.{parity_read}
 use Rattle.zb_fragstore.proofs.store.FragStore.read_parity.Goals as goal
 
--- src/read.rt:70:5
 pub returns-clause-found : goal.returns-clause-found
 returns-clause-found g c tells is_open id at parity =
     parity_read c.args.self.now _ id c.args.spot _ _ (ap (λ (s : SeenStore). s.geo) c.self.view_is) c.platter-platter.ensures is_open at

@@ -5,7 +5,6 @@ use Rattle.zb_fragstore.specs.Seen.{SeenStore}
 use Rattle.zb_fragstore.proofs.Retrieved.{share_read}
 use Rattle.zb_fragstore.proofs.store.FragStore.retrieve.Goals as goal
 
--- src/read.rt:34:5
 pub returns-clause-found : goal.returns-clause-found
 returns-clause-found g c tells is_open =
     let at : spot_of c.args.self.now.index c.args.id ≡ Some c.in-Some.spot = sym c.find.ensures.spot ∙ c.in-Some.is in

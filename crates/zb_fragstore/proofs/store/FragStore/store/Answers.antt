@@ -5,31 +5,24 @@ use Rattle.zb_fragstore.proofs.Taken.{if_ok, changes_length, takes_least}
 use Rattle.zb_fragstore.proofs.Told.{stored}
 use Rattle.zb_fragstore.proofs.store.FragStore.store.Goals as goal
 
--- src/change.rt:48:9
 pub returns-in_err-check_generation-clause-told : goal.returns-in_err-check_generation-clause-told
 returns-in_err-check_generation-clause-told g c tells is_open = refused_by _ _ _ _ c.from_residual.ensures.0 is_open
 
--- src/change.rt:50:13
 pub returns-then-is_some-clause-told : goal.returns-then-is_some-clause-told
 returns-then-is_some-clause-told g c tells is_open = refused _ _ _ _ is_open
 
--- src/change.rt:52:9
 pub returns-in_err-check_room-clause-told : goal.returns-in_err-check_room-clause-told
 returns-in_err-check_room-clause-told g c tells is_open = refused_by _ _ _ _ c.from_residual-in_err-check_room.ensures.0 is_open
 
--- src/change.rt:53:20
 pub returns-in_err-slot-clause-told : goal.returns-in_err-slot-clause-told
 returns-in_err-slot-clause-told g c tells is_open = rw c.in_err-slot.ensures.same (refused_by _ _ _ _ c.from_residual-in_err-slot.ensures.0 is_open)
 
--- src/change.rt:21:5
 pub returns-clause-stored : goal.returns-clause-stored
 returns-clause-stored g c = if_ok c.or_stopped.result (changes_length c.args.id _ _ _ _ c.take_slot.ensures.rest refl c.in_ok-slot.ensures.taken.put)
 
--- src/change.rt:21:5
 pub returns-clause-least : goal.returns-clause-least
 returns-clause-least g c = if_ok c.or_stopped.result (takes_least c.args.id c.in_ok-slot.slot _ c.args.self.now c.take_slot.new.self c.in_ok-slot.ensures.taken.least c.in_ok-slot.ensures.taken.put refl)
 
--- src/change.rt:21:5
 pub returns-clause-told : goal.returns-clause-told
 returns-clause-told g c tells is_open =
     stored _ _ _ _ _ _ _ _ c.or_stopped.ensures c.take_slot.ensures.rest is_open

@@ -1,11 +1,9 @@
 use Rattle.zb_server.proofs.Served.{stays_up, served}
 use Rattle.zb_server.proofs.server.Server.serve.Goals as goal
 
--- src/server.rt:58:5
 pub returns-clause-up : goal.returns-clause-up
 returns-clause-up g c store mending was = stays_up _ store _ mending c.args.self.now c.in-Up.is was _ c.said.result
 
--- src/server.rt:58:5
 pub returns-clause-told : goal.returns-clause-told
 returns-clause-told g c store mending was tells is_open =
     served _ store _ mending c.args.self.now c.in-Up.is was c.args.generation c.args.request.now _ c.answer-answered.result c.said.result (g.B.Bay.meaning c.args.bay.now) _ (c.answer-answered.ensures.told tells) is_open

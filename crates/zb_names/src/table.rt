@@ -63,7 +63,8 @@ impl Names {
 
     /// The names with these entries and this number for the next file. None exactly where the number is 0, where the
     /// paths don't rise by their bytes, where a proper front of a path isn't that of a directory, or where the number
-    /// of a file is 0 or not below the next.
+    /// of a file is 0 or not below the next. That no two files have one number, and that there are at most 4,096
+    /// names, isn't looked at.
     pub fn load(alloc: Global, next: u32, list: &[(Path, Entry)]) -> Mem<Option<Names>>
         ensures same { IfOk result (λ found. IfSome found (λ names. names ≡ record { next = next; entries = listed list.now })) }
         ensures exact { IfOk result (λ found. IsSome found ↔ IsTree next (listed list.now)) }

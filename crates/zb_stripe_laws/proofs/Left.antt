@@ -1,5 +1,5 @@
 -- What is held remains.
-use Rattle.std.proofs.Common.{◌≡◌, ◌⊎◌, ℕ, ◌≤◌, Bool, false, ◌&&◌, cond, List, length, Option, Some, None, refl, inl, inr, subst, sym}
+use Rattle.std.proofs.Common.{◌≡◌, ◌⊎◌, ℕ, ◌≤◌, Bool, false, ◌&&◌, cond, List, length, Option, Some, None, refl, inl, inr, subst, sym, arith}
 use Rattle.std.proofs.lemmas.Bool.{cond_both}
 use Rattle.zb_types.specs.declared.ids.FragId.{FragId}
 use Rattle.std.specs.Prelude.{slice_index}
@@ -92,6 +92,35 @@ module _ (m f : ℕ) (stands : ℕ → Option Fragment) (away more : ℕ → Boo
     room = h.room;
     shares = λ k l a. let s = h.shares k l (weaker k a) in record { begins = s.begins; reaches = s.reaches };
     parity = λ a. parity_more (stands m) (h.parity (weaker m a));
+  }
+
+reaches_less : (low high : ℕ) (o : Option Fragment) → low ≤ high → IsGoneOrReaches high o → IsGoneOrReaches low o
+reaches_less low high None le r = tt
+reaches_less low high (Some (share_fragment s)) le r = omega (arith, le, r)
+reaches_less low high (Some (parity_fragment l p)) le r = absurd r
+
+-- what remains up to an end does so up to a lower one
+module _ (m f : ℕ) (stands : ℕ → Option Fragment) (away : ℕ → Bool) (low high : ℕ) (bytes : List ℕ) (le : low ≤ high) where
+  parity_lower : (o : Option Fragment) → ParityRemains m f stands away high bytes o → ParityRemains m f stands away low bytes o
+  parity_lower None c = tt
+  parity_lower (Some (share_fragment s)) c = absurd c
+  parity_lower (Some (parity_fragment lengths parity)) c = record {
+    count = c.count;
+    enough = λ k l. omega (arith, le, c.enough k l);
+    within = c.within;
+    stored = c.stored;
+    exclusive = c.exclusive;
+    longest = c.longest;
+  }
+
+  pub remains_lower : FragmentsRemain m f stands away high bytes → FragmentsRemain m f stands away low bytes
+  remains_lower h = record {
+    whole = omega (arith, le, h.whole);
+    room = h.room;
+    shares = λ k l a.
+        let s = h.shares k l a in
+        record { begins = s.begins; reaches = reaches_less (share_length f low k) (share_length f high k) (stands k) (omega (arith, le)) s.reaches };
+    parity = λ a. parity_lower (stands m) (h.parity a);
   }
 
 -- what a delete leaves is what stood, or nothing

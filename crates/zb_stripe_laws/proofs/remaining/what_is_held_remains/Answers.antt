@@ -3,7 +3,7 @@ use Rattle.zb_types.specs.declared.requests.Request.TheVariants as ask
 use Rattle.zb_holding.specs.Placing.{frag_id, server_of}
 use Rattle.zb_holding.specs.Holding.{standing, away_at}
 use Rattle.zb_holding.specs.Carrying.{carried}
-use Rattle.zb_stripe_laws.proofs.Left.{held_remains, remains_less, remains_away, after_delete}
+use Rattle.zb_stripe_laws.proofs.Left.{held_remains, remains_less, remains_away, remains_lower, after_delete}
 use Rattle.zb_stripe_laws.proofs.remaining.what_is_held_remains.Goals as goal
 
 pub returns-clause-held : goal.returns-clause-held
@@ -21,3 +21,6 @@ returns-clause-lost c m f before now away end bytes same rest = remains_less m f
 
 pub returns-clause-away : goal.returns-clause-away
 returns-clause-away c m f stands away more end bytes weaker rest = remains_away m f stands away more end bytes weaker rest
+
+pub returns-clause-lower : goal.returns-clause-lower
+returns-clause-lower c m f stands away low high bytes le rest = remains_lower m f stands away low high bytes le rest

@@ -10,10 +10,10 @@ use Rattle.zb_holding.specs.Fragments.{Fragment}
 use Rattle.zb_holding.specs.Placing.{frag_id, server_of}
 use Rattle.zb_holding.specs.Holding.{Maps, standing}
 use Rattle.zb_holding.specs.Carrying.{stands_after, same_frag, is_about, carried}
-use Rattle.zb_stripe_laws.specs.PartAtWork.{IsElsewhere}
+use Rattle.zb_stripe_laws.specs.PartAtWork.{IsOfOtherStripe}
 use Rattle.zb_stripe_laws.specs.PlanAtWork.{IsBeside}
 
-pub other_name : (q : FragId) (log : LogId) (stripe k : ℕ) → IsElsewhere q log stripe → same_frag q (frag_id log stripe k) ≡ false
+pub other_name : (q : FragId) (log : LogId) (stripe k : ℕ) → IsOfOtherStripe q log stripe → same_frag q (frag_id log stripe k) ≡ false
 other_name q log stripe k (inl ne) = and_left (eqb q.log.0 log.0 && eqb q.stripe stripe) (eqb q.index k) (and_left (eqb q.log.0 log.0) (eqb q.stripe stripe) (ne_eqb q.log.0 log.0 ne))
 other_name q log stripe k (inr ne) = and_left (eqb q.log.0 log.0 && eqb q.stripe stripe) (eqb q.index k) (and_right (eqb q.log.0 log.0) (eqb q.stripe stripe) (ne_eqb q.stripe stripe ne))
 

@@ -12,7 +12,7 @@ use Rattle.zb_holding.specs.Holding.{Maps, is_away}
 use Rattle.zb_holding.specs.Carrying.{stands_after, same_frag, is_about, carried, carried_all}
 use Rattle.zb_stripe.specs.declared.flush.Part.{Part}
 use Rattle.zb_stripe.specs.Writing.{grow, unless_out, new_bytes, share_request, share_requests, lengths_of, parity_bytes, parity_request, part_requests}
-use Rattle.zb_stripe_laws.specs.PartAtWork.{IsElsewhere}
+use Rattle.zb_stripe_laws.specs.PartAtWork.{IsOfOtherStripe}
 use Rattle.zb_stripe_laws.proofs.Growing.{about_grow}
 
 -- none of these is about this identifier
@@ -24,14 +24,14 @@ silent-append : (q : FragId) (xs ys : List (ServerId × Request)) → Silent q x
 silent-append q [] ys a b = b
 silent-append q (x ∷ xs) ys a b = (a.0, silent-append q xs ys a.1 b)
 
-other_stripe : (q : FragId) (log : LogId) (stripe k : ℕ) → IsElsewhere q log stripe → same_frag (frag_id log stripe k) q ≡ false
+other_stripe : (q : FragId) (log : LogId) (stripe k : ℕ) → IsOfOtherStripe q log stripe → same_frag (frag_id log stripe k) q ≡ false
 other_stripe q log stripe k (inl ne) = and_left (eqb log.0 q.log.0 && eqb stripe q.stripe) (eqb k q.index) (and_left (eqb log.0 q.log.0) (eqb stripe q.stripe) (ne_eqb log.0 q.log.0 (λ e. ne (sym e))))
 other_stripe q log stripe k (inr ne) = and_left (eqb log.0 q.log.0 && eqb stripe q.stripe) (eqb k q.index) (and_right (eqb log.0 q.log.0) (eqb stripe q.stripe) (ne_eqb stripe q.stripe (λ e. ne (sym e))))
 
 silent_unless_out : (n : ℕ) (out : Option ServerId) (q id : FragId) (request : Request) → is_about request q ≡ false → Silent q (unless_out n out id request)
 silent_unless_out n out q id request h = cond_both (is_away out (server_of n id)) [] ((server_of n id, request) ∷ []) (Silent q) (λ _. tt) (λ _. (h, tt))
 
-module _ (n f : ℕ) (out : Option ServerId) (class : Class) (log : LogId) (part : Part) (q : FragId) (other : IsElsewhere q log part.stripe) where
+module _ (n f : ℕ) (out : Option ServerId) (class : Class) (log : LogId) (part : Part) (q : FragId) (other : IsOfOtherStripe q log part.stripe) where
   silent_share : (k : ℕ) → Silent q (share_request n f out class log part k)
   silent_share k =
       let id = frag_id log part.stripe k in

@@ -12,7 +12,7 @@ use Rattle.zb_holding.specs.Holding.{Maps, standing}
 use Rattle.zb_holding.specs.Carrying.{stands_after, same_frag, is_about, carried}
 use Rattle.zb_holding.proofs.Keys.{same_frag-is}
 use Rattle.zb_stripe.specs.Reading.{Reading}
-use Rattle.zb_stripe_laws.specs.PartAtWork.{IsElsewhere}
+use Rattle.zb_stripe_laws.specs.PartAtWork.{IsOfOtherStripe}
 use Rattle.zb_stripe_laws.specs.ReadAtWork.{IsGoneOrSame, IsGoneOrLonger, LetsRead, lengths_seen}
 use Rattle.zb_stripe_laws.proofs.Beside.{other_name}
 
@@ -35,13 +35,13 @@ module _ (r : Reading) (j : ℕ) (low : j < r.servers - 1) (covers : 0 < get_or 
   Name = frag_id r.ptr.log r.ptr.stripe j
 
   -- no request that lets the read go on stores or replaces the share
-  not_stored : (id : FragId) → IsElsewhere id r.ptr.log r.ptr.stripe ⊎ (get_or (lengths_seen r.phase) id.index 0 ≡ 0) → same_frag id Name ≡ true → ⊥
+  not_stored : (id : FragId) → IsOfOtherStripe id r.ptr.log r.ptr.stripe ⊎ (get_or (lengths_seen r.phase) id.index 0 ≡ 0) → same_frag id Name ≡ true → ⊥
   not_stored id (inl away) e = false≢true (sym (other_name id r.ptr.log r.ptr.stripe j away) ∙ e)
   not_stored id (inr none) e =
       let at : id.index ≡ j = ap (λ (q : FragId). q.index) (same_frag-is id Name e) in
       omega (arith, ap (λ (k : ℕ). get_or (lengths_seen r.phase) k 0) at)
 
-  not_replaced : (id : FragId) → IsElsewhere id r.ptr.log r.ptr.stripe ⊎ (id.index ≡ r.servers - 1) → same_frag id Name ≡ true → ⊥
+  not_replaced : (id : FragId) → IsOfOtherStripe id r.ptr.log r.ptr.stripe ⊎ (id.index ≡ r.servers - 1) → same_frag id Name ≡ true → ⊥
   not_replaced id (inl away) e = false≢true (sym (other_name id r.ptr.log r.ptr.stripe j away) ∙ e)
   not_replaced id (inr last) e =
       let at : id.index ≡ j = ap (λ (q : FragId). q.index) (same_frag-is id Name e) in

@@ -16,4 +16,5 @@ pub mod Plans
 pub mod Ranges
 pub mod Rebuilt
 pub mod Seeing
+pub mod Taking
 pub mod Working

@@ -18,7 +18,7 @@ use Rattle.zb_stripe.specs.declared.read.Got.TheVariants as got
 use Rattle.zb_stripe.specs.declared.progress.Phase.{Phase}
 use Rattle.zb_stripe.specs.declared.progress.Phase.TheVariants.{Direct, Lengths, Others}
 use Rattle.zb_stripe.specs.Reading.{Reading, names_two, asked, fed, is_gone}
-use Rattle.zb_stripe_laws.specs.ReadAtWork.{LetsRead, lengths_seen, IsGoneOrSame, IsGoneOrLonger, StillStand, StillGrow, ReadAtWork, WasLooked, TellsOfFragment, AnswersWith, MayAnswer, DidNotAnswer, IsLost, LeadsTo, AsksOther}
+use Rattle.zb_stripe_laws.specs.ReadAtWork.{LetsRead, lengths_seen, IsGoneOrSame, IsGoneOrLonger, StillStand, StillGrow, ReadAtWork, WasLooked, TellsOfFragment, AnswersWith, MayTell, DidNotAnswer, IsLost, as_seen, LeadsTo, AsksOther}
 use Rattle.zb_stripe_laws.specs.ReadAtWork as work
 use Rattle.zb_holding.proofs.Placings.{turn_once}
 use Rattle.zb_stripe_laws.proofs.Gathering.{Good, LacksIt, step, covers_it, direct_is_there, parity_is_there}
@@ -123,17 +123,17 @@ module _ (n f : ℕ) (ptr : Ptr) (end : ℕ) (two : 2 ≤ n) (some : 0 < f) (ins
       record { count = so.count; within = so.within; begins = so.begins ∙ same_range end ptr.offset (length read) one other (omega arith) same }
 
   -- two servers of a stripe that are lost are named with the lesser first
-  two_named : (now : Maps) (bytes : List ℕ) (before : Reading) (t : Response) (r : Reading) (i j : ℕ) → i < n → j < n → j ≢ i
-      → IsLost before t (At i) → IsLost before t (At j) → LeadsTo now end bytes before t r (names_two (At i) (At j))
-  two_named now bytes before t r i j il jl ne one other =
-      cond_both (ltb (At i).0 (At j).0) (got.Unreachable (At i) (At j)) (got.Unreachable (At j) (At i)) (LeadsTo now end bytes before t r)
+  two_named : (now seen : Maps) (x y : Option ServerId) (bytes : List ℕ) (before : Reading) (t : Response) (r : Reading) (i j : ℕ) → i < n → j < n → j ≢ i
+      → IsLost before t (At i) → IsLost before t (At j) → LeadsTo now seen x y end bytes before t r (names_two (At i) (At j))
+  two_named now seen x y bytes before t r i j il jl ne one other =
+      cond_both (ltb (At i).0 (At j).0) (got.Unreachable (At i) (At j)) (got.Unreachable (At j) (At i)) (LeadsTo now seen x y end bytes before t r)
       (λ less. (ltb-true (At i).0 (At j).0 less, one, other))
       (λ not_less.
       let le = ltb-false (At i).0 (At j).0 not_less in
       let differ : (At i).0 ≢ (At j).0 = λ e. ne (turn_once n (ptr.log.0 + ptr.stripe) j i jl il (omega arith)) in
       (omega (arith, differ), other, one))
 
-  module _ (now : Maps) (x : Option ServerId) (bytes : List ℕ) (remains : StripeRemains (view_of n f now x) ptr.log ptr.stripe end bytes) where
+  module _ (now seen : Maps) (x y : Option ServerId) (bytes : List ℕ) (remains : StripeRemains (view_of n f now x) ptr.log ptr.stripe end bytes) where
     self_share : (o : Option Fragment) (bs : List ℕ) (limit : ℕ) → Begins o bs → IsGoneOrSame o o limit
     self_share None bs limit b = tt
     self_share (Some (share_fragment s)) bs limit b = refl
@@ -146,29 +146,41 @@ module _ (n f : ℕ) (ptr : Ptr) (end : ℕ) (two : 2 ≤ n) (some : 0 < f) (ins
 
     -- a read of the maps of now
     pub at_work : (lost : List Bool) (read : List ℕ) (phase : Phase) → work.SoFar n f ptr bytes lost read
-        → work.PhaseFits n f ptr now x bytes lost read phase → ReadAtWork now end bytes (mk lost read phase)
-    at_work lost read phase so fits = record { seen = now; y = x; then_bytes = bytes; remained = remains; same = refl; so_far = so; fits = fits; still = still_self phase }
+        → work.PhaseFits n f ptr now x bytes lost read phase → ReadAtWork now now x end bytes (mk lost read phase)
+    at_work lost read phase so fits = record { then_bytes = bytes; remained = remains; same = refl; so_far = so; fits = fits; still = still_self phase }
 
     module _ (lost : List Bool) (read : List ℕ) (phase : Phase) (t : Response) where
       abbrev Before : Reading
       Before = mk lost read phase
 
       abbrev Leads : Reading × Got → Type 0
-      Leads p = LeadsTo now end bytes Before t p.0 p.1
+      Leads p = LeadsTo now seen x y end bytes Before t p.0 p.1
 
       is_lost_at : (k : ℕ) → k < n → (get_or lost k false ≡ true) ⊎ Asked lost read phase t (At k) → IsLost Before t (At k)
       is_lost_at k l e = record { index = k; below = l; at = refl; lost = e }
 
-      from_now : (p : Reading × Got)
+      -- the maps of now are those in which the parity is seen
+      abbrev SeenNow : Type 0
+      SeenNow = (later : List Bool) (more : List ℕ) (next : Phase) → ReadAtWork now now x end bytes (mk later more next)
+          → ReadAtWork now (as_seen phase now seen) (as_seen phase x y) end bytes (mk later more next)
+
+      from_now : (p : Reading × Got) → SeenNow
           → Good n f (Asked lost read phase t) now x ptr end bytes two some inside remains p lost (work.answers_left n f ptr read phase) → Leads p
-      from_now p (inl g) =
-          subst (LeadsTo now end bytes Before t p.0) (sym g.more)
-          (subst (λ (r : Reading). LeadsTo now end bytes Before t r got.More) (sym g.is)
-          (record { work = at_work g.lost g.read g.phase g.so_far g.fits; fewer = g.less; loses = g.known }))
-      from_now p (inr (inl e)) = subst (LeadsTo now end bytes Before t p.0) (sym e) refl
-      from_now p (inr (inr b)) =
-          subst (LeadsTo now end bytes Before t p.0) (sym b.is)
-          (two_named now bytes Before t p.0 b.i b.j b.first b.second b.differ (is_lost_at b.i b.first b.one) (is_lost_at b.j b.second b.other))
+      from_now p is_now (inl g) =
+          subst (LeadsTo now seen x y end bytes Before t p.0) (sym g.more)
+          (subst (λ (r : Reading). LeadsTo now seen x y end bytes Before t r got.More) (sym g.is)
+          (record {
+            servers = refl;
+            fragment = refl;
+            ptr = refl;
+            work = is_now g.lost g.read g.phase (at_work g.lost g.read g.phase g.so_far g.fits);
+            fewer = g.less;
+            loses = g.known;
+          }))
+      from_now p is_now (inr (inl e)) = subst (LeadsTo now seen x y end bytes Before t p.0) (sym e) refl
+      from_now p is_now (inr (inr b)) =
+          subst (LeadsTo now seen x y end bytes Before t p.0) (sym b.is)
+          (two_named now seen x y bytes Before t p.0 b.i b.j b.first b.second b.differ (is_lost_at b.i b.first b.one) (is_lost_at b.j b.second b.other))
 
       lacks_asked : (request : Option (ServerId × Request)) → LacksIt n f (Asked lost read phase t) now x ptr end bytes two some inside remains request → work.LacksAsked now request
       lacks_asked None l = absurd l
@@ -180,34 +192,35 @@ module _ (n f : ℕ) (ptr : Ptr) (end : ℕ) (two : 2 ≤ n) (some : 0 < f) (ins
       lacks_asked (Some (server, ask.Identify after)) l = absurd l
       lacks_asked (Some (server, ask.Fence generation)) l = absurd l
 
-      now_on : work.SoFar n f ptr bytes lost read → work.PhaseFits n f ptr now x bytes lost read phase → AnswersWith Any now x (asked Before) t → Leads (fed Before t)
-      now_on so fits a = elim (step n f (Asked lost read phase t) now x ptr end bytes two some inside remains lost read phase t so fits (asked_alone now x (asked Before) t a)) as (λ _. Leads (fed Before t)) [
-        | inl good ↦ from_now (fed Before t) good
-        | inr gone ↦ subst (LeadsTo now end bytes Before t (fed Before t).0) (sym gone.0) (lacks_asked (asked Before) gone.1)
+      now_on : SeenNow → work.SoFar n f ptr bytes lost read → work.PhaseFits n f ptr now x bytes lost read phase → AnswersWith Any now x (asked Before) t → Leads (fed Before t)
+      now_on is_now so fits a = elim (step n f (Asked lost read phase t) now x ptr end bytes two some inside remains lost read phase t so fits (asked_alone now x (asked Before) t a)) as (λ _. Leads (fed Before t)) [
+        | inl good ↦ from_now (fed Before t) is_now good
+        | inr gone ↦ subst (LeadsTo now seen x y end bytes Before t (fed Before t).0) (sym gone.0) (lacks_asked (asked Before) gone.1)
       ]
 
-    module _ (lost : List Bool) (read lengths sum : List ℕ) (j : ℕ) (t : Response) (w : ReadAtWork now end bytes (mk lost read (Others lengths sum j))) where
+    module _ (lost : List Bool) (read lengths sum : List ℕ) (j : ℕ) (t : Response) (w : ReadAtWork now seen y end bytes (mk lost read (Others lengths sum j))) where
       abbrev Others_before : Reading
       Others_before = mk lost read (Others lengths sum j)
 
-      still_later : (later : List Bool) (more : List ℕ) (phase : Phase) → work.PhaseFits n f ptr w.seen w.y w.then_bytes later more phase → StillStand n ptr now w.seen w.y phase
+      still_later : (later : List Bool) (more : List ℕ) (phase : Phase) → work.PhaseFits n f ptr seen y w.then_bytes later more phase → StillStand n ptr now seen y phase
       still_later later more Direct fits = tt
       still_later later more Lengths fits = tt
       still_later later more (Others ls sum' k) fits = λ i l covers a.
-          let same = same_lengths (standing n w.seen ptr.log ptr.stripe (n - 1)) lengths w.fits.0 ls fits.0 w.fits.1.stands fits.1.stands in
+          let same = same_lengths (standing n seen ptr.log ptr.stripe (n - 1)) lengths w.fits.0 ls fits.0 w.fits.1.stands fits.1.stands in
           let at = ap (λ (z : List ℕ). get_or z i 0) same in
-          subst (λ (z : List ℕ). IsGoneOrSame (standing n now ptr.log ptr.stripe i) (standing n w.seen ptr.log ptr.stripe i) (get_or z i 0)) same (w.still i l (omega arith) a)
+          subst (λ (z : List ℕ). IsGoneOrSame (standing n now ptr.log ptr.stripe i) (standing n seen ptr.log ptr.stripe i) (get_or z i 0)) same (w.still i l (omega arith) a)
 
       from_seen : (p : Reading × Got)
-          → Good n f (Asked lost read (Others lengths sum j) t) w.seen w.y ptr end w.then_bytes two some inside w.remained p lost (work.answers_left n f ptr read (Others lengths sum j))
-          → LeadsTo now end bytes Others_before t p.0 p.1
+          → Good n f (Asked lost read (Others lengths sum j) t) seen y ptr end w.then_bytes two some inside w.remained p lost (work.answers_left n f ptr read (Others lengths sum j))
+          → LeadsTo now seen x y end bytes Others_before t p.0 p.1
       from_seen p (inl g) =
-          subst (LeadsTo now end bytes Others_before t p.0) (sym g.more)
-          (subst (λ (r : Reading). LeadsTo now end bytes Others_before t r got.More) (sym g.is)
+          subst (LeadsTo now seen x y end bytes Others_before t p.0) (sym g.more)
+          (subst (λ (r : Reading). LeadsTo now seen x y end bytes Others_before t r got.More) (sym g.is)
           (record {
+            servers = refl;
+            fragment = refl;
+            ptr = refl;
             work = record {
-              seen = w.seen;
-              y = w.y;
               then_bytes = w.then_bytes;
               remained = w.remained;
               same = w.same;
@@ -219,53 +232,53 @@ module _ (n f : ℕ) (ptr : Ptr) (end : ℕ) (two : 2 ≤ n) (some : 0 < f) (ins
             loses = g.known;
           }))
       from_seen p (inr (inl e)) =
-          subst (LeadsTo now end bytes Others_before t p.0) (sym e) (same_range end ptr.offset ptr.len w.then_bytes bytes inside w.same)
+          subst (LeadsTo now seen x y end bytes Others_before t p.0) (sym e) (same_range end ptr.offset ptr.len w.then_bytes bytes inside w.same)
       from_seen p (inr (inr b)) =
-          subst (LeadsTo now end bytes Others_before t p.0) (sym b.is)
-          (two_named now bytes Others_before t p.0 b.i b.j b.first b.second b.differ
+          subst (LeadsTo now seen x y end bytes Others_before t p.0) (sym b.is)
+          (two_named now seen x y bytes Others_before t p.0 b.i b.j b.first b.second b.differ
           (is_lost_at lost read (Others lengths sum j) t b.i b.first b.one) (is_lost_at lost read (Others lengths sum j) t b.j b.second b.other))
 
-      seen_on : AnswersWith Any w.seen w.y (asked Others_before) t → LeadsTo now end bytes Others_before t (fed Others_before t).0 (fed Others_before t).1
+      seen_on : AnswersWith Any seen y (asked Others_before) t → LeadsTo now seen x y end bytes Others_before t (fed Others_before t).0 (fed Others_before t).1
       seen_on a =
           let q = w.fits.1 in
           let reached = q.reached in
-          elim (step n f (Asked lost read (Others lengths sum j) t) w.seen w.y ptr end w.then_bytes two some inside w.remained lost read (Others lengths sum j) t w.so_far w.fits (asked_alone w.seen w.y (asked Others_before) t a))
-          as (λ _. LeadsTo now end bytes Others_before t (fed Others_before t).0 (fed Others_before t).1) [
+          elim (step n f (Asked lost read (Others lengths sum j) t) seen y ptr end w.then_bytes two some inside w.remained lost read (Others lengths sum j) t w.so_far w.fits (asked_alone seen y (asked Others_before) t a))
+          as (λ _. LeadsTo now seen x y end bytes Others_before t (fed Others_before t).0 (fed Others_before t).1) [
             | inl good ↦ from_seen (fed Others_before t) good
             | inr gone ↦
-                subst (LeadsTo now end bytes Others_before t (fed Others_before t).0) (sym gone.0)
-                (still_gone (standing n now ptr.log ptr.stripe j) (standing n w.seen ptr.log ptr.stripe j) (get_or lengths j 0) (w.still j q.index (omega arith) gone.1.0) gone.1.1)
+                subst (LeadsTo now seen x y end bytes Others_before t (fed Others_before t).0) (sym gone.0)
+                (still_gone (standing n now ptr.log ptr.stripe j) (standing n seen ptr.log ptr.stripe j) (get_or lengths j 0) (w.still j q.index (omega arith) gone.1.0) gone.1.1)
           ]
 
       -- what is answered of the share that is asked
       of_share : (o : Option Fragment) → standing n now ptr.log ptr.stripe j ≡ o
-          → (TellsOfFragment t → WasLooked n ptr w.y (Others lengths sum j))
+          → (TellsOfFragment t → WasLooked n ptr y (Others lengths sum j))
           → t ≡ found o ((ptr.offset + length read) % f) (min (min (ptr.offset + ptr.len - (ptr.offset + length read)) (f - (ptr.offset + length read) % f)) (get_or lengths j 0 - (ptr.offset + length read) % f))
-          → LeadsTo now end bytes Others_before t (fed Others_before t).0 (fed Others_before t).1
+          → LeadsTo now seen x y end bytes Others_before t (fed Others_before t).0 (fed Others_before t).1
       of_share None none looked is =
-          subst (LeadsTo now end bytes Others_before t (fed Others_before t).0) (sym (ap (λ (r : Response). (fed Others_before r).1) is)) none
+          subst (LeadsTo now seen x y end bytes Others_before t (fed Others_before t).0) (sym (ap (λ (r : Response). (fed Others_before r).1) is)) none
       of_share (Some fragment) there looked is =
           let q = w.fits.1 in
           let at = (ptr.offset + length read) % f in
           let len = min (min (ptr.offset + ptr.len - (ptr.offset + length read)) (f - at)) (get_or lengths j 0 - at) in
           let was = looked (subst TellsOfFragment (sym is) (tells_of fragment at len)) in
-          let c = covers_it n f Any w.seen w.y ptr end w.then_bytes two some inside w.remained lengths w.fits.0 q.stands q.looked in
+          let c = covers_it n f Any seen y ptr end w.then_bytes two some inside w.remained lengths w.fits.0 q.stands q.looked in
           let reached = q.reached in
-          elim (found_still (standing n now ptr.log ptr.stripe j) (standing n w.seen ptr.log ptr.stripe j) (get_or lengths j 0) at len (w.still j q.index (omega arith) was) (omega arith) (c.stored j q.index was))
-          as (λ _. LeadsTo now end bytes Others_before t (fed Others_before t).0 (fed Others_before t).1) [
+          elim (found_still (standing n now ptr.log ptr.stripe j) (standing n seen ptr.log ptr.stripe j) (get_or lengths j 0) at len (w.still j q.index (omega arith) was) (omega arith) (c.stored j q.index was))
+          as (λ _. LeadsTo now seen x y end bytes Others_before t (fed Others_before t).0 (fed Others_before t).1) [
             | inl none ↦
-                subst (LeadsTo now end bytes Others_before t (fed Others_before t).0)
+                subst (LeadsTo now seen x y end bytes Others_before t (fed Others_before t).0)
                 (sym (ap (λ (r : Response). (fed Others_before r).1) (is ∙ ap (λ (o : Option Fragment). found o at len) (sym there ∙ none)))) none
             | inr same ↦ seen_on (inr (was, is ∙ ap (λ (o : Option Fragment). found o at len) (sym there) ∙ same))
           ]
 
-      others_go_on : (TellsOfFragment t → WasLooked n ptr w.y (Others lengths sum j)) → AnswersWith Any now x (asked Others_before) t
-          → LeadsTo now end bytes Others_before t (fed Others_before t).0 (fed Others_before t).1
+      others_go_on : (TellsOfFragment t → WasLooked n ptr y (Others lengths sum j)) → AnswersWith Any now x (asked Others_before) t
+          → LeadsTo now seen x y end bytes Others_before t (fed Others_before t).0 (fed Others_before t).1
       others_go_on looked (inl down) = seen_on (inl down)
       others_go_on looked (inr is) = of_share (standing n now ptr.log ptr.stripe j) refl looked is.1
 
     abbrev Result : List Bool → List ℕ → Phase → Response → Type 0
-    Result lost read phase t = LeadsTo now end bytes (mk lost read phase) t (fed (mk lost read phase) t).0 (fed (mk lost read phase) t).1
+    Result lost read phase t = LeadsTo now seen x y end bytes (mk lost read phase) t (fed (mk lost read phase) t).0 (fed (mk lost read phase) t).1
 
     -- a fence that is newer ends the read
     old_ends : (lost : List Bool) (read : List ℕ) (phase : Phase) (generation : ℕ) → Result lost read phase (told.Refused (fault.OldGeneration generation))
@@ -273,19 +286,19 @@ module _ (n f : ℕ) (ptr : Ptr) (end : ℕ) (two : 2 ≤ n) (some : 0 < f) (ins
     old_ends lost read Lengths generation = refl
     old_ends lost read (Others lengths sum j) generation = refl
 
-    answered_on : (lost : List Bool) (read : List ℕ) (phase : Phase) (t : Response) (w : ReadAtWork now end bytes (mk lost read phase))
-        → (TellsOfFragment t → WasLooked n ptr w.y phase) → AnswersWith Any now x (asked (mk lost read phase)) t → Result lost read phase t
-    answered_on lost read Direct t w looked a = now_on lost read Direct t (moved w.then_bytes bytes lost read w.same w.so_far) w.fits a
-    answered_on lost read Lengths t w looked a = now_on lost read Lengths t (moved w.then_bytes bytes lost read w.same w.so_far) w.fits a
+    answered_on : (lost : List Bool) (read : List ℕ) (phase : Phase) (t : Response) (w : ReadAtWork now seen y end bytes (mk lost read phase))
+        → (TellsOfFragment t → WasLooked n ptr y phase) → AnswersWith Any now x (asked (mk lost read phase)) t → Result lost read phase t
+    answered_on lost read Direct t w looked a = now_on lost read Direct t (λ later more next at. at) (moved w.then_bytes bytes lost read w.same w.so_far) w.fits a
+    answered_on lost read Lengths t w looked a = now_on lost read Lengths t (λ later more next at. at) (moved w.then_bytes bytes lost read w.same w.so_far) w.fits a
     answered_on lost read (Others lengths sum j) t w looked a = others_go_on lost read lengths sum j t w looked a
 
-    pub goes_on : (lost : List Bool) (read : List ℕ) (phase : Phase) (t : Response) (w : ReadAtWork now end bytes (mk lost read phase))
-        → (TellsOfFragment t → WasLooked n ptr w.y phase) → MayAnswer now x (asked (mk lost read phase)) t → Result lost read phase t
+    pub goes_on : (lost : List Bool) (read : List ℕ) (phase : Phase) (t : Response) (w : ReadAtWork now seen y end bytes (mk lost read phase))
+        → (TellsOfFragment t → WasLooked n ptr y phase) → MayTell now x (asked (mk lost read phase)) t → Result lost read phase t
     goes_on lost read phase t w looked (inl a) = answered_on lost read phase t w looked a
     goes_on lost read phase t w looked (inr old) = subst (Result lost read phase) (sym old.1) (old_ends lost read phase old.0)
 
   -- of a stripe that is held, only another share may be gone
-  module _ (now : Maps) (x : Option ServerId) (bytes : List ℕ) (held : StripeHolds (view_of n f now x) ptr.log ptr.stripe end bytes) where
+  module _ (now seen : Maps) (x y : Option ServerId) (bytes : List ℕ) (held : StripeHolds (view_of n f now x) ptr.log ptr.stripe end bytes) where
     rest : StripeRemains (view_of n f now x) ptr.log ptr.stripe end bytes
     rest = held_remains (n - 1) f (standing n now ptr.log ptr.stripe) (away_at n x ptr.log ptr.stripe) end bytes held
 
@@ -303,15 +316,15 @@ module _ (n f : ℕ) (ptr : Ptr) (end : ℕ) (two : 2 ≤ n) (some : 0 < f) (ins
 
     none_gone : (lost : List Bool) (read : List ℕ) (phase : Phase) (t : Response) → work.SoFar n f ptr bytes lost read → work.PhaseFits n f ptr now x bytes lost read phase
         → (LacksIt n f Any now x ptr end bytes two some inside rest (asked (mk lost read phase)) → ⊥)
-        → MayAnswer now x (asked (mk lost read phase)) t → (fed (mk lost read phase) t).1 ≡ got.Gone → ⊥
+        → MayTell now x (asked (mk lost read phase)) t → (fed (mk lost read phase) t).1 ≡ got.Gone → ⊥
     none_gone lost read phase t so fits there (inl a) gone = elim (step n f Any now x ptr end bytes two some inside rest lost read phase t so fits a) as (λ _. ⊥) [
       | inl good ↦ good_stays lost (work.answers_left n f ptr read phase) (fed (mk lost read phase) t) good gone
       | inr lacks ↦ there lacks.1
     ]
     none_gone lost read phase t so fits there (inr old) gone = old_stays lost read phase old.0 (ap (λ (r : Response). (fed (mk lost read phase) r).1) (sym old.1) ∙ gone)
 
-    pub gone_other : (lost : List Bool) (read : List ℕ) (phase : Phase) (t : Response) → ReadAtWork now end bytes (mk lost read phase)
-        → MayAnswer now x (asked (mk lost read phase)) t → (fed (mk lost read phase) t).1 ≡ got.Gone → AsksOther phase
+    pub gone_other : (lost : List Bool) (read : List ℕ) (phase : Phase) (t : Response) → ReadAtWork now seen y end bytes (mk lost read phase)
+        → MayTell now x (asked (mk lost read phase)) t → (fed (mk lost read phase) t).1 ≡ got.Gone → AsksOther phase
     gone_other lost read Direct t w a gone =
         none_gone lost read Direct t (moved w.then_bytes bytes lost read w.same w.so_far) w.fits (direct_is_there n f Any now x ptr end bytes two some inside rest held lost read) a gone
     gone_other lost read Lengths t w a gone =
@@ -319,24 +332,22 @@ module _ (n f : ℕ) (ptr : Ptr) (end : ℕ) (two : 2 ≤ n) (some : 0 < f) (ins
     gone_other lost read (Others lengths sum j) t w a gone = tt
 
   -- a read at work stays so over other maps and bytes
-  module _ (now new : Maps) (bytes other : List ℕ) (same : take end bytes ≡ take end other) where
-    stays_still : (lost : List Bool) (read : List ℕ) (phase : Phase) (w : ReadAtWork now end bytes (mk lost read phase))
-        → StillGrow n ptr now new w.seen w.y phase → StillStand n ptr new w.seen w.y phase
+  module _ (now new seen : Maps) (y : Option ServerId) (bytes other : List ℕ) (same : take end bytes ≡ take end other) where
+    stays_still : (lost : List Bool) (read : List ℕ) (phase : Phase) (w : ReadAtWork now seen y end bytes (mk lost read phase))
+        → StillGrow n ptr now new seen y phase → StillStand n ptr new seen y phase
     stays_still lost read Direct w longer = tt
     stays_still lost read Lengths w longer = tt
     stays_still lost read (Others lengths sum k) w longer = λ j l covers a.
         let q = w.fits.1 in
-        let c = covers_it n f Any w.seen w.y ptr end w.then_bytes two some inside w.remained lengths w.fits.0 q.stands q.looked in
-        elim (longer j l covers a) as (λ _. IsGoneOrSame (standing n new ptr.log ptr.stripe j) (standing n w.seen ptr.log ptr.stripe j) (get_or lengths j 0)) [
-          | inl grows ↦ still_longer (standing n new ptr.log ptr.stripe j) (standing n now ptr.log ptr.stripe j) (standing n w.seen ptr.log ptr.stripe j) (get_or lengths j 0) grows (w.still j l covers a) (c.stored j l a)
+        let c = covers_it n f Any seen y ptr end w.then_bytes two some inside w.remained lengths w.fits.0 q.stands q.looked in
+        elim (longer j l covers a) as (λ _. IsGoneOrSame (standing n new ptr.log ptr.stripe j) (standing n seen ptr.log ptr.stripe j) (get_or lengths j 0)) [
+          | inl grows ↦ still_longer (standing n new ptr.log ptr.stripe j) (standing n now ptr.log ptr.stripe j) (standing n seen ptr.log ptr.stripe j) (get_or lengths j 0) grows (w.still j l covers a) (c.stored j l a)
           | inr back ↦ back
         ]
 
-    pub stays : (lost : List Bool) (read : List ℕ) (phase : Phase) (w : ReadAtWork now end bytes (mk lost read phase))
-        → StillGrow n ptr now new w.seen w.y phase → ReadAtWork new end other (mk lost read phase)
+    pub stays : (lost : List Bool) (read : List ℕ) (phase : Phase) (w : ReadAtWork now seen y end bytes (mk lost read phase))
+        → StillGrow n ptr now new seen y phase → ReadAtWork new seen y end other (mk lost read phase)
     stays lost read phase w longer = record {
-      seen = w.seen;
-      y = w.y;
       then_bytes = w.then_bytes;
       remained = w.remained;
       same = w.same ∙ same;
@@ -356,7 +367,7 @@ module _ (now : Maps) (asked_of : ServerId × Request) where
       (standing r.servers seen r.ptr.log r.ptr.stripe j) (get_or lengths j 0) lets (still j l covers a))
 
   pub beside_request : (r : Reading) (end : ℕ) (bytes : List ℕ) → 2 ≤ r.servers → 0 < r.fragment → r.ptr.offset + r.ptr.len ≤ end
-      → LetsRead r asked_of.1 → ReadAtWork now end bytes r → ReadAtWork (carried now asked_of) end bytes r
-  beside_request r end bytes two some inside lets w =
-      stays r.servers r.fragment r.ptr end two some inside now (carried now asked_of) bytes bytes refl r.lost r.read r.phase w
-      (let_on r r.phase refl w.y w.seen lets w.still)
+      → LetsRead r asked_of.1 → (seen : Maps) (y : Option ServerId) → ReadAtWork now seen y end bytes r → ReadAtWork (carried now asked_of) seen y end bytes r
+  beside_request r end bytes two some inside lets seen y w =
+      stays r.servers r.fragment r.ptr end two some inside now (carried now asked_of) seen y bytes bytes refl r.lost r.read r.phase w
+      (let_on r r.phase refl y seen lets w.still)

@@ -34,8 +34,8 @@ IsUnwritten v log stripe = (k : ℕ) → k < v.servers → away_at v.servers v.a
     → standing v.servers v.maps log stripe k ≡ None
 
 -- the name is one of another stripe
-abbrev pub IsElsewhere : FragId → LogId → ℕ → Type 0
-IsElsewhere id log stripe = (id.log.0 ≢ log.0) ⊎ (id.stripe ≢ stripe)
+abbrev pub IsOfOtherStripe : FragId → LogId → ℕ → Type 0
+IsOfOtherStripe id log stripe = (id.log.0 ≢ log.0) ⊎ (id.stripe ≢ stripe)
 
 -- all of a share's bytes stand, and nothing where it has none
 abbrev pub IsWhole : Option Fragment → List ℕ → Type 0

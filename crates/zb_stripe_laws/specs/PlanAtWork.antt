@@ -10,14 +10,14 @@ use Rattle.zb_holding.specs.Carrying.{carried_all}
 use Rattle.zb_stripe.specs.declared.flush.Part.{Part}
 use Rattle.zb_stripe.specs.declared.flush.Flush.{Flush}
 use Rattle.zb_stripe.specs.Writing.{plan_requests}
-use Rattle.zb_stripe_laws.specs.PartAtWork.{IsElsewhere, StandsAsIn, MayBegin, StripesDiffer}
+use Rattle.zb_stripe_laws.specs.PartAtWork.{IsOfOtherStripe, StandsAsIn, MayBegin, StripesDiffer}
 
 -- the request changes no fragment of this stripe
 abbrev pub IsBeside : Request → LogId → ℕ → Type 0
-IsBeside (ask.Store id bytes class) log stripe = IsElsewhere id log stripe
-IsBeside (ask.Append id place bytes) log stripe = IsElsewhere id log stripe
-IsBeside (ask.Parity id lengths bytes class) log stripe = IsElsewhere id log stripe
-IsBeside (ask.Delete id) log stripe = IsElsewhere id log stripe
+IsBeside (ask.Store id bytes class) log stripe = IsOfOtherStripe id log stripe
+IsBeside (ask.Append id place bytes) log stripe = IsOfOtherStripe id log stripe
+IsBeside (ask.Parity id lengths bytes class) log stripe = IsOfOtherStripe id log stripe
+IsBeside (ask.Delete id) log stripe = IsOfOtherStripe id log stripe
 IsBeside request log stripe = Unit {0}
 
 -- the request changes no fragment of the parts' stripes

@@ -11,7 +11,7 @@ use Rattle.zb_holding.specs.Fragments.{Fragment, share_fragment, parity_fragment
 use Rattle.zb_holding.specs.Exclusive.{xor_at}
 use Rattle.zb_holding.specs.Holding.{Maps, view_of, StripeRemains, covered, is_away, standing, away_at}
 use Rattle.zb_holding.specs.Carrying.{found}
-use Rattle.zb_stripe_laws.specs.PartAtWork.{IsElsewhere}
+use Rattle.zb_stripe_laws.specs.PartAtWork.{IsOfOtherStripe}
 use Rattle.zb_stripe.specs.declared.read.Got.{Got}
 use Rattle.zb_stripe.specs.declared.read.Got.TheVariants as got
 use Rattle.zb_stripe.specs.declared.progress.Phase.{Phase}
@@ -135,16 +135,14 @@ lengths_seen (Others lengths sum k) = lengths
 -- another stripe, a share of which the parity covered nothing, or the parity; or it adds to a share, deletes, or only asks
 abbrev pub LetsRead : Reading → Request → Type 0
 LetsRead r (ask.Store id bytes class) =
-    IsElsewhere id r.ptr.log r.ptr.stripe ⊎ (slice_index (lengths_seen r.phase) id.index ≡ 0)
-LetsRead r (ask.Parity id lengths bytes class) = IsElsewhere id r.ptr.log r.ptr.stripe ⊎ (id.index ≡ r.servers - 1)
+    IsOfOtherStripe id r.ptr.log r.ptr.stripe ⊎ (slice_index (lengths_seen r.phase) id.index ≡ 0)
+LetsRead r (ask.Parity id lengths bytes class) = IsOfOtherStripe id r.ptr.log r.ptr.stripe ⊎ (id.index ≡ r.servers - 1)
 LetsRead r request = Unit {0}
 
 -- A read at work, whose stripe is committed up to `end` with the same bytes throughout: what remained of the stripe in
--- the maps in which its range's parity was seen is of these bytes, what it has is theirs, and what it still asks for is
--- gone or the same.
-pub record ReadAtWork (now : Maps) (end : ℕ) (bytes : List ℕ) (r : Reading) : Type 0 where
-  pub seen : Maps
-  pub y : Option ServerId
+-- the maps in which its range's parity was seen, where server y wasn't looked at, is of these bytes, what it has is
+-- theirs, and what it still asks for is gone or the same.
+pub record ReadAtWork (now seen : Maps) (y : Option ServerId) (end : ℕ) (bytes : List ℕ) (r : Reading) : Type 0 where
   pub then_bytes : List ℕ
   pub remained : StripeRemains (view_of r.servers r.fragment seen y) r.ptr.log r.ptr.stripe end then_bytes
   pub same : take end then_bytes ≡ take end bytes
@@ -192,8 +190,8 @@ AllAnswer maps x z r (t ∷ ts) = AnswersFrom maps x z (asked r) t × (is_more (
     → AllAnswer maps x z (fed r t).0 ts)
 
 -- any server may be down or have a newer fence
-abbrev pub MayAnswer : Maps → Option ServerId → Option (ServerId × Request) → Response → Type 0
-MayAnswer maps x request response =
+abbrev pub MayTell : Maps → Option ServerId → Option (ServerId × Request) → Response → Type 0
+MayTell maps x request response =
     AnswersWith (λ server. Unit {0}) maps x request response ⊎ ((generation : ℕ) × (response
     ≡ told.Refused (fault.OldGeneration generation)))
 
@@ -219,21 +217,32 @@ abbrev pub LosesAsked : Reading → Response → Reading → Type 0
 LosesAsked before response r = (k : ℕ) → k < before.servers → is_lost r k ≡ true
     → (is_lost before k ≡ true) ⊎ DidNotAnswer (asked before) response (server_at before k)
 
--- a read goes on at work, with fewer answers to come
-pub record LeadsOn (now : Maps) (end : ℕ) (bytes : List ℕ) (before : Reading) (response : Response) (r : Reading) : Type 0 where
-  pub work : ReadAtWork now end bytes r
+-- what is so now; while another share is asked for, what was so when the parity was seen
+abbrev pub as_seen : {A : Type 0} → Phase → A → A → A
+as_seen Direct now seen = now
+as_seen Lengths now seen = now
+as_seen (Others lengths sum j) now seen = seen
+
+-- The same read goes on at work, with fewer answers to come: over the maps that answered, which do without server x,
+-- but where another share was asked for over those in which the parity was seen, which did without y.
+pub record LeadsOn (now seen : Maps) (x y : Option ServerId) (end : ℕ) (bytes : List ℕ) (before : Reading) (response : Response) (r : Reading) : Type 0 where
+  pub servers : r.servers ≡ before.servers
+  pub fragment : r.fragment ≡ before.fragment
+  pub ptr : r.ptr ≡ before.ptr
+  pub work : ReadAtWork now (as_seen before.phase now seen) (as_seen before.phase x y) end bytes r
   pub fewer : answers_left before.servers before.fragment before.ptr r.read r.phase
       < answers_left before.servers before.fragment before.ptr before.read before.phase
   pub loses : LosesAsked before response r
 
 -- what an answer leads to: the read goes on, or it ends with the stripe's bytes, with two servers that are lost, with a
 -- fragment that isn't there, or with a newer fence
-abbrev pub LeadsTo : Maps → ℕ → List ℕ → Reading → Response → Reading → Got → Type 0
-LeadsTo now end bytes before response r got.More = LeadsOn now end bytes before response r
-LeadsTo now end bytes before response r (got.Bytes found) = found ≡ take before.ptr.len (drop before.ptr.offset bytes)
-LeadsTo now end bytes before response r (got.Unreachable a b) = (a.0 < b.0) × IsLost before response a × IsLost before response b
-LeadsTo now end bytes before response r got.Gone = LacksAsked now (asked before)
-LeadsTo now end bytes before response r (got.Old generation) = response ≡ told.Refused (fault.OldGeneration generation)
+abbrev pub LeadsTo : Maps → Maps → Option ServerId → Option ServerId → ℕ → List ℕ → Reading → Response → Reading
+    → Got → Type 0
+LeadsTo now seen x y end bytes before response r got.More = LeadsOn now seen x y end bytes before response r
+LeadsTo now seen x y end bytes before response r (got.Bytes found) = found ≡ take before.ptr.len (drop before.ptr.offset bytes)
+LeadsTo now seen x y end bytes before response r (got.Unreachable a b) = (a.0 < b.0) × IsLost before response a × IsLost before response b
+LeadsTo now seen x y end bytes before response r got.Gone = LacksAsked now (asked before)
+LeadsTo now seen x y end bytes before response r (got.Old generation) = response ≡ told.Refused (fault.OldGeneration generation)
 
 -- another share is asked for, since the parity covers it into the range
 abbrev pub AsksOther : Phase → Type 0

@@ -1,11 +1,11 @@
-ghost use Rattle.std.specs.Prelude.{◌≡◌, ℕ, ◌+◌, ◌*◌, ◌<◌, ◌≤◌, List, length, take, drop, Option, IfSome, IsSome};
+ghost use Rattle.std.specs.Prelude.{◌≡◌, ℕ, ◌+◌, ◌*◌, ◌<◌, ◌≤◌, List, length, take, drop, Option, Some, IfSome, IsSome};
 ghost use Rattle.zb_types.specs.declared.ids.ServerId.{ServerId};
 ghost use Rattle.zb_types.specs.declared.ids.Ptr.{Ptr};
 ghost use Rattle.zb_types.specs.declared.requests.Request.{Request};
 ghost use Rattle.zb_types.specs.declared.requests.Response.{Response};
 ghost use Rattle.zb_holding.specs.Holding.{Maps, View, view_of, StripeHolds, StripeRemains, is_away};
 ghost use Rattle.zb_holding.specs.Carrying.{carried};
-ghost use Rattle.zb_stripe.specs.Reading.{Reading, start, server_at, is_lost, asked, fed, answered};
+ghost use Rattle.zb_stripe.specs.Reading.{Reading, start, server_at, is_lost, asked, fed, answered, Answers};
 ghost use Rattle.zb_stripe_laws.specs.ReadAtWork.{
   ReadAtWork,
   StillGrow,
@@ -14,7 +14,7 @@ ghost use Rattle.zb_stripe_laws.specs.ReadAtWork.{
   TellsOfFragment,
   IsOutOf,
   AllAnswer,
-  MayAnswer,
+  MayTell,
   LeadsTo,
   AsksOther,
 };
@@ -39,32 +39,41 @@ pub fn read_gives_bytes()
 
 /// A read while others write, answer by answer: it begins at work over what remains of its stripe, and stays so over maps
 /// with the same committed bytes whose shares are gone, grow or are put back, as beside any request but one that puts another fragment
-/// in the place of a share. An answer from the maps of now leads it on, or to an end that is right. It is gone only where
+/// in the place of a share. An answer from the maps of now may be fed, and leads it on, or to an end that is right; then the
+/// maps of now are those in which the parity was seen, but where another share was asked for. It is gone only where
 /// the fragment that is asked for isn't there: of a stripe that is held, another share than the range's own.
 pub fn read_goes_on()
     ensures begins { (v : View) (out : Option ServerId) (ptr : Ptr) (end : ℕ) (bytes : List ℕ)
         → 2 ≤ v.servers → 0 < v.fragment → 0 < ptr.len → ptr.offset + ptr.len ≤ end
         → StripeRemains v ptr.log ptr.stripe end bytes
-        → ReadAtWork v.maps end bytes (start v.servers v.fragment ptr out) }
+        → ReadAtWork v.maps v.maps v.away end bytes (start v.servers v.fragment ptr out) }
     ensures first { (n f : ℕ) (ptr : Ptr) (out : Option ServerId) (k : ℕ)
         → k < n → is_lost (start n f ptr out) k ≡ is_away out (server_at (start n f ptr out) k) }
-    ensures stays { (now new : Maps) (end : ℕ) (bytes other : List ℕ) (r : Reading) (work : ReadAtWork now end bytes r)
+    ensures stays { (now new seen : Maps) (y : Option ServerId) (end : ℕ) (bytes other : List ℕ) (r : Reading)
+        → ReadAtWork now seen y end bytes r
         → 2 ≤ r.servers → 0 < r.fragment → r.ptr.offset + r.ptr.len ≤ end → take end bytes ≡ take end other
-        → StillGrow r.servers r.ptr now new work.seen work.y r.phase
-        → ReadAtWork new end other r }
-    ensures beside { (now : Maps) (end : ℕ) (bytes : List ℕ) (r : Reading) (asked : ServerId × Request)
+        → StillGrow r.servers r.ptr now new seen y r.phase
+        → ReadAtWork new seen y end other r }
+    ensures beside { (now seen : Maps) (y : Option ServerId) (end : ℕ) (bytes : List ℕ) (r : Reading) (asked : ServerId × Request)
         → 2 ≤ r.servers → 0 < r.fragment → r.ptr.offset + r.ptr.len ≤ end
-        → LetsRead r asked.1 → ReadAtWork now end bytes r → ReadAtWork (carried now asked) end bytes r }
-    ensures goes_on { (now : Maps) (x : Option ServerId) (end : ℕ) (bytes : List ℕ) (r : Reading) (response : Response) (work : ReadAtWork now end bytes r)
+        → LetsRead r asked.1 → ReadAtWork now seen y end bytes r → ReadAtWork (carried now asked) seen y end bytes r }
+    ensures fits { (now seen : Maps) (x y : Option ServerId) (end : ℕ) (bytes : List ℕ) (r : Reading) (one : ServerId × Request) (response : Response)
+        → ReadAtWork now seen y end bytes r
         → 2 ≤ r.servers → 0 < r.fragment → r.ptr.offset + r.ptr.len ≤ end
         → StripeRemains (view_of r.servers r.fragment now x) r.ptr.log r.ptr.stripe end bytes
-        → (TellsOfFragment response → WasLooked r.servers r.ptr work.y r.phase)
-        → MayAnswer now x (asked r) response
-        → LeadsTo now end bytes r response (fed r response).0 (fed r response).1 }
-    ensures gone { (now : Maps) (x : Option ServerId) (end : ℕ) (bytes : List ℕ) (r : Reading) (response : Response)
-        → ReadAtWork now end bytes r
+        → asked r ≡ Some one → MayTell now x (asked r) response
+        → Answers r.servers (asked r) response }
+    ensures goes_on { (now seen : Maps) (x y : Option ServerId) (end : ℕ) (bytes : List ℕ) (r : Reading) (response : Response)
+        → ReadAtWork now seen y end bytes r
+        → 2 ≤ r.servers → 0 < r.fragment → r.ptr.offset + r.ptr.len ≤ end
+        → StripeRemains (view_of r.servers r.fragment now x) r.ptr.log r.ptr.stripe end bytes
+        → (TellsOfFragment response → WasLooked r.servers r.ptr y r.phase)
+        → MayTell now x (asked r) response
+        → LeadsTo now seen x y end bytes r response (fed r response).0 (fed r response).1 }
+    ensures gone { (now seen : Maps) (x y : Option ServerId) (end : ℕ) (bytes : List ℕ) (r : Reading) (response : Response)
+        → ReadAtWork now seen y end bytes r
         → 2 ≤ r.servers → 0 < r.fragment → r.ptr.offset + r.ptr.len ≤ end
         → StripeHolds (view_of r.servers r.fragment now x) r.ptr.log r.ptr.stripe end bytes
-        → MayAnswer now x (asked r) response → (fed r response).1 ≡ Got.Gone
+        → MayTell now x (asked r) response → (fed r response).1 ≡ Got.Gone
         → AsksOther r.phase }
 {}

@@ -6,28 +6,33 @@ use Rattle.zb_stripe.specs.Reading.{first_lost}
 use Rattle.zb_stripe_laws.specs.ReadAtWork.{ReadAtWork}
 use Rattle.zb_stripe_laws.proofs.Gathering.{starts}
 use Rattle.zb_stripe_laws.proofs.Ongoing.{at_work, goes_on, gone_other, stays, beside_request}
+use Rattle.zb_stripe_laws.proofs.Taking.{may_be_fed}
 use Rattle.zb_stripe_laws.proofs.reading.read_goes_on.Goals as goal
 
 pub returns-clause-begins : goal.returns-clause-begins
 returns-clause-begins c v out ptr end bytes two some long inside remains =
     let s = starts v.servers v.fragment v.maps v.away ptr end bytes two some inside out long in
-    subst (ReadAtWork v.maps end bytes) (sym s.is)
-    (at_work v.servers v.fragment ptr end two some inside v.maps v.away bytes remains (first_lost v.servers ptr out) [] s.phase s.so_far s.fits)
+    subst (ReadAtWork v.maps v.maps v.away end bytes) (sym s.is)
+    (at_work v.servers v.fragment ptr end two some inside v.maps v.maps v.away v.away bytes remains (first_lost v.servers ptr out) [] s.phase s.so_far s.fits)
 
 pub returns-clause-first : goal.returns-clause-first
 returns-clause-first c n f ptr out k l = get_or-map-range_with_len (λ i. is_away out (server_of n (frag_id ptr.log ptr.stripe i))) 0 n k k false l (omega arith)
 
 pub returns-clause-stays : goal.returns-clause-stays
-returns-clause-stays c now new end bytes other r work two some inside same longer =
-    stays r.servers r.fragment r.ptr end two some inside now new bytes other same r.lost r.read r.phase work longer
-
-pub returns-clause-goes_on : goal.returns-clause-goes_on
-returns-clause-goes_on c now x end bytes r response work two some inside remains looked answers =
-    goes_on r.servers r.fragment r.ptr end two some inside now x bytes remains r.lost r.read r.phase response work looked answers
-
-pub returns-clause-gone : goal.returns-clause-gone
-returns-clause-gone c now x end bytes r response work two some inside held answers gone =
-    gone_other r.servers r.fragment r.ptr end two some inside now x bytes held r.lost r.read r.phase response work answers gone
+returns-clause-stays c now new seen y end bytes other r work two some inside same longer =
+    stays r.servers r.fragment r.ptr end two some inside now new seen y bytes other same r.lost r.read r.phase work longer
 
 pub returns-clause-beside : goal.returns-clause-beside
-returns-clause-beside c now end bytes r asked two some inside lets work = beside_request now asked r end bytes two some inside lets work
+returns-clause-beside c now seen y end bytes r asked two some inside lets work = beside_request now asked r end bytes two some inside lets seen y work
+
+pub returns-clause-fits : goal.returns-clause-fits
+returns-clause-fits c now seen x y end bytes r one response work two some inside remains stands tells =
+    may_be_fed r.servers r.fragment r.ptr end two some inside now seen x y bytes remains r.lost r.read r.phase response work one stands tells
+
+pub returns-clause-goes_on : goal.returns-clause-goes_on
+returns-clause-goes_on c now seen x y end bytes r response work two some inside remains looked tells =
+    goes_on r.servers r.fragment r.ptr end two some inside now seen x y bytes remains r.lost r.read r.phase response work looked tells
+
+pub returns-clause-gone : goal.returns-clause-gone
+returns-clause-gone c now seen x y end bytes r response work two some inside held tells gone =
+    gone_other r.servers r.fragment r.ptr end two some inside now seen x y bytes held r.lost r.read r.phase response work tells gone

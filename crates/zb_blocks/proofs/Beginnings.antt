@@ -9,12 +9,13 @@ use Rattle.zb_holding.specs.Holding.{StripeHolds, view_of}
 use Rattle.zb_stripe.specs.declared.flush.Part.{Part}
 use Rattle.zb_stripe.specs.Writing.{IsWritable, StripesRise}
 use Rattle.zb_stripe_laws.specs.PartAtWork.{StandsUpTo, IsUnwritten, MayBegin}
+use Rattle.zb_stripe_laws.proofs.Standings.{stands_whole}
 use Rattle.zb_log.specs.Sealing.{given_of, GoesNext}
 use Rattle.zb_log.specs.Logs.{last_of}
 use Rattle.zb_plain.specs.Standing.{maps_of}
 use Rattle.zb_blocks.specs.Blocks.{SeenBlocks, IsSound, blocks_log, end_of, contents_of}
 use Rattle.zb_blocks.specs.Flushing.{CanEnter}
-use Rattle.zb_blocks.proofs.Standings.{contents_held, stands_up_to}
+use Rattle.zb_blocks.proofs.Standings.{contents_held}
 use Rattle.zb_blocks.proofs.Parts.{Each, highest}
 
 pub each_to : (P Q : Part → Type 0) (parts : List Part) → ((part : Part) → P part → Q part) → Each P parts → Each Q parts
@@ -74,7 +75,7 @@ module _ (old : SeenBlocks) (s : IsSound old) where
             ∙ ap (λ (z : ℕ). take z bytes) end ∙ take_all (length bytes) bytes (omega arith));
         holds = subst (λ (z : ℕ). Holds part.stripe z (take part.begin part.bytes)) (sym begin) (subst (Holds part.stripe (length bytes)) (sym front) there);
         stands = subst (StandsUpTo (view_of old.servers old.fragment (maps_of old.kept) None) blocks_log part.stripe) (sym begin)
-            (stands_up_to old.servers old.fragment (maps_of old.kept) blocks_log part.stripe bytes there);
+            (stands_whole (view_of old.servers old.fragment (maps_of old.kept) None) blocks_log part.stripe bytes there);
       }
 
   -- a part of a stripe of which nothing is committed is the first

@@ -1,16 +1,13 @@
 -- Stripes that stand, and what they contain.
 use Rattle.std.proofs.Common.{◌≡◌, ℕ, ◌+◌, ◌-◌, ◌*◌, ◌<◌, ◌≤◌, List, [], length, take, drop, Option, Some, None, refl, sym, ap, subst, ◌∙◌, arith}
 use Rattle.std.specs.List.{range_with_len, flat_map}
-use Rattle.std.proofs.lemmas.List.{length-take, take-take, drop-take}
+use Rattle.std.proofs.lemmas.List.{take-take, drop-take}
 use Rattle.zb_types.specs.declared.ids.LogId.{LogId}
 use Rattle.zb_types.specs.declared.ids.Ptr.{Ptr}
-use Rattle.zb_holding.specs.Fragments.{Fragment, share_fragment, parity_fragment}
-use Rattle.zb_holding.specs.Placing.{share_length, share_of}
-use Rattle.zb_holding.specs.Holding.{Maps, share_bytes, Begins, StripeHolds, standing, away_at, view_of}
-use Rattle.zb_holding.proofs.Shares.{length-share_of}
+use Rattle.zb_holding.specs.Placing.{share_length}
+use Rattle.zb_holding.specs.Holding.{Maps, share_bytes, StripeHolds, standing, away_at, view_of}
 use Rattle.zb_stripe.specs.declared.read.Got.{Got}
 use Rattle.zb_stripe.specs.declared.read.Got.TheVariants as got
-use Rattle.zb_stripe_laws.specs.PartAtWork.{HasBytes, StandsUpTo}
 use Rattle.zb_stripe_laws.proofs.Mended.{holds_away}
 use Rattle.zb_plain.specs.Standing.{maps_of}
 use Rattle.zb_blocks.specs.Blocks.{SeenBlocks, blocks_log, end_of, contents_of, IsStored, Extends, HaveSameContents, StripesHold}
@@ -75,23 +72,6 @@ held_at blocks hold ptr s =
       held = subst (λ (z : LogId). StripeHolds (view_of blocks.servers blocks.fragment (maps_of blocks.kept) None) z ptr.stripe (end_of blocks ptr.stripe) h.bytes) (sym s.log) h.held;
       first = h.first;
     }
-
--- ---- a share that stands exactly
-
-has_bytes : (o : Option Fragment) (bytes : List ℕ) (n : ℕ) → Begins o bytes → n ≤ length (share_bytes o) → length bytes ≡ n → HasBytes o n
-has_bytes None bytes n b le long = omega (arith, le)
-has_bytes (Some (share_fragment stands)) bytes n b le long =
-    let short = ap length b.1 ∙ length-take (length stands) bytes in
-    let some = b.0 in
-    (omega arith, omega arith)
-has_bytes (Some (parity_fragment lengths parity)) bytes n b le long = absurd b
-
--- a stripe that is committed up to its last byte stands up to there
-pub stands_up_to : (n f : ℕ) (maps : Maps) (log : LogId) (stripe : ℕ) (bytes : List ℕ) → StripeHolds (view_of n f maps None) log stripe (length bytes) bytes
-    → StandsUpTo (view_of n f maps None) log stripe (length bytes)
-stands_up_to n f maps log stripe bytes h k below looked =
-    let s = h.shares k below looked in
-    has_bytes (standing n maps log stripe k) (share_of f bytes k) (share_length f (length bytes) k) s.begins s.reaches (length-share_of f bytes k)
 
 -- ---- what is stored
 

@@ -16,5 +16,6 @@ pub mod Plans
 pub mod Ranges
 pub mod Rebuilt
 pub mod Seeing
+pub mod Standings
 pub mod Taking
 pub mod Working

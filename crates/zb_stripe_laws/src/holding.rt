@@ -7,6 +7,7 @@ ghost use Rattle.zb_holding.specs.Placing.{share_of};
 ghost use Rattle.zb_holding.specs.Holding.{View, StripeHolds, FragmentsHold, AreBytesOfStripe};
 ghost use Rattle.zb_holding.specs.Exclusive.{list_at, greatest, IsXorOf};
 ghost use Rattle.zb_parity.specs.Rebuilding.{Rebuilds};
+ghost use Rattle.zb_stripe_laws.specs.PartAtWork.{StandsUpTo};
 ghost use Rattle.zb_stripe_laws.specs.Restoring.{cut_to, end_lengths, end_parity, lengths_in, others_of, share_or_none, with_index};
 
 /// What a stripe holds up to its committed end is one list, which are its committed bytes.
@@ -30,6 +31,12 @@ pub fn judged_by_what_is_looked_at()
 pub fn lower_end_holds()
     ensures { (m f : ℕ) (stands : ℕ → Option Fragment) (away : ℕ → Bool) (low high : ℕ) (bytes : List ℕ)
         → low ≤ high → FragmentsHold m f stands away high bytes → FragmentsHold m f stands away low bytes }
+{}
+
+/// A stripe that is held up to its last byte stands up to there.
+pub fn whole_stripe_stands()
+    ensures { (v : View) (log : LogId) (stripe : ℕ) (bytes : List ℕ)
+        → StripeHolds v log stripe (length bytes) bytes → StandsUpTo v log stripe (length bytes) }
 {}
 
 /// A stripe is held where less of it is looked at.

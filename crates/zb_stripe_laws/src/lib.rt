@@ -10,7 +10,7 @@ mod writing;
 
 pub use holding::{
     judged_by_what_is_looked_at, lower_end_holds, more_may_be_away, rebuilt_is_the_parity,
-    rebuilt_is_the_share, restored_holds, stripe_is_one_list,
+    rebuilt_is_the_share, restored_holds, stripe_is_one_list, whole_stripe_stands,
 };
 pub use planning::{
     plan_at_work, requests_leave_no_share_empty, requests_leave_other_stripes,

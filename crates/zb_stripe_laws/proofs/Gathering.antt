@@ -98,6 +98,8 @@ module _ (n f : ℕ) (MayBeDown : ServerId → Type 0) (maps : Maps) (x : Option
     pub fits : PhaseFits lost read phase
     pub less : left read phase < m
     pub known : (k : ℕ) → k < n → get_or lost k false ≡ true → LostOrDown before k
+    pub kept : (k : ℕ) → get_or before k false ≡ true → get_or lost k false ≡ true
+    pub clear : blocked_in (mk lost read phase) phase ≡ None
 
   -- two servers are lost
   pub record Blocks (p : Reading × Got) (before : List Bool) : Type 0 where
@@ -167,6 +169,8 @@ module _ (n f : ℕ) (MayBeDown : ServerId → Type 0) (maps : Maps) (x : Option
           fits = fits;
           less = less;
           known = λ k l e. inl e;
+          kept = λ k e. e;
+          clear = by ∙ ap (λ (z : Bool). cond z (Some j) None) here;
         })
       ]
 
@@ -194,6 +198,8 @@ module _ (n f : ℕ) (MayBeDown : ServerId → Type 0) (maps : Maps) (x : Option
                     fits = λ _. here;
                     less = less;
                     known = λ k l e. inl e;
+                    kept = λ k e. e;
+                    clear = refl;
                   }))
             ]
         | inr past ↦
@@ -353,6 +359,11 @@ module _ (n f : ℕ) (MayBeDown : ServerId → Type 0) (maps : Maps) (x : Option
           | inl own ↦ inr (subst (λ (i : ℕ). MayBeDown (At i)) (sym own) down)
           | inr ne ↦ inl (sym (get_or-set_other lost (K read) k true false ne) ∙ e)
         ];
+        kept = λ k e. elim (cases_eq k (K read)) as (λ _. get_or (set lost (K read) true) k false ≡ true) [
+          | inl own ↦ ap (λ (i : ℕ). get_or (set lost (K read) true) i false) own ∙ get_or-set_same lost (K read) true false (omega arith)
+          | inr ne ↦ get_or-set_other lost (K read) k true false ne ∙ e
+        ];
+        clear = ap (λ (z : Bool). cond z (Some (n - 1)) None) (get_or-set_other lost (K read) (n - 1) true false (λ e. omega arith) ∙ here);
       }))
 
   step_direct : (lost : List Bool) (read : List ℕ) (t : Response) → SoFar lost read → PhaseFits lost read Direct → Answers (asked (mk lost read Direct)) t → Led lost read Direct (fed (mk lost read Direct) t)

@@ -1,6 +1,7 @@
 -- A read that goes on while what the servers keep changes.
-use Rattle.std.proofs.Common.{◌≡◌, ◌≢◌, ◌⊎◌, ℕ, ◌+◌, ◌-◌, ◌%◌, ◌<◌, ◌≤◌, min, Bool, true, false, cond, ltb, leb, List, [], length, take, drop, get_or, Option, Some, None, refl, sym, ap, ◌∙◌, subst, inl, inr, arith}
+use Rattle.std.proofs.Common.{◌≡◌, ◌≢◌, ◌⊎◌, ℕ, ◌+◌, ◌-◌, ◌/◌, ◌%◌, ◌<◌, ◌≤◌, min, Bool, true, false, cond, ltb, leb, List, [], length, take, drop, get_or, Option, Some, None, refl, sym, ap, ◌∙◌, subst, inl, inr, arith}
 use Rattle.std.proofs.lemmas.Bool.{le-leb, ltb-true, ltb-false, cond_both, false≢true}
+use Rattle.std.proofs.lemmas.Nat.{div_below}
 use Rattle.std.proofs.lemmas.List.{length-take, length-take-le, take-take, drop-take}
 use Rattle.zb_types.specs.declared.ids.ServerId.{ServerId}
 use Rattle.zb_types.specs.declared.ids.Ptr.{Ptr}
@@ -11,16 +12,17 @@ use Rattle.zb_types.specs.declared.requests.Response.TheVariants as told
 use Rattle.zb_types.specs.declared.requests.StoreFault.TheVariants as fault
 use Rattle.zb_holding.specs.Fragments.{Fragment, share_fragment, parity_fragment}
 use Rattle.zb_holding.specs.Placing.{share_of, frag_id, server_of}
-use Rattle.zb_holding.specs.Holding.{Maps, Begins, IsGoneOrReaches, StripeHolds, StripeRemains, standing, away_at, view_of}
+use Rattle.zb_holding.specs.Holding.{Maps, Begins, IsGoneOrReaches, StripeHolds, StripeRemains, standing, is_away, away_at, view_of}
 use Rattle.zb_holding.specs.Carrying.{found, carried}
 use Rattle.zb_stripe.specs.declared.read.Got.{Got}
 use Rattle.zb_stripe.specs.declared.read.Got.TheVariants as got
 use Rattle.zb_stripe.specs.declared.progress.Phase.{Phase}
 use Rattle.zb_stripe.specs.declared.progress.Phase.TheVariants.{Direct, Lengths, Others}
-use Rattle.zb_stripe.specs.Reading.{Reading, names_two, asked, fed, is_gone}
+use Rattle.zb_stripe.specs.Reading.{Reading, names_two, asked, fed, blocked_in, first_lost, is_gone}
 use Rattle.zb_stripe_laws.specs.ReadAtWork.{LetsRead, lengths_seen, IsGoneOrSame, IsGoneOrLonger, StillStand, StillGrow, ReadAtWork, WasLooked, TellsOfFragment, AnswersWith, MayTell, DidNotAnswer, IsLost, as_seen, LeadsTo, AsksOther}
 use Rattle.zb_stripe_laws.specs.ReadAtWork as work
 use Rattle.zb_holding.proofs.Placings.{turn_once}
+use Rattle.zb_stripe_laws.proofs.Away.{away_once}
 use Rattle.zb_stripe_laws.proofs.Gathering.{Good, LacksIt, step, covers_it, direct_is_there, parity_is_there}
 use Rattle.zb_stripe_laws.proofs.Left.{held_remains}
 use Rattle.zb_stripe_laws.proofs.Letting.{carried_longer}
@@ -82,6 +84,9 @@ lengths_at (Some (parity_fragment lengths parity)) = lengths
 same_lengths : (o : Option Fragment) (lengths parity more other : List ℕ) → o ≡ Some (parity_fragment lengths parity) → o ≡ Some (parity_fragment more other) → lengths ≡ more
 unfolding lengths_at
 same_lengths o lengths parity more other a b = ap lengths_at (sym a ∙ b)
+
+some_none : (k : ℕ) → Some k ≡ None → ⊥
+some_none k e = absurd cc
 
 abbrev Any : ServerId → Type 0
 Any server = Unit {0}
@@ -146,8 +151,36 @@ module _ (n f : ℕ) (ptr : Ptr) (end : ℕ) (two : 2 ≤ n) (some : 0 < f) (ins
 
     -- a read of the maps of now
     pub at_work : (lost : List Bool) (read : List ℕ) (phase : Phase) → work.SoFar n f ptr bytes lost read
-        → work.PhaseFits n f ptr now x bytes lost read phase → ReadAtWork now now x end bytes (mk lost read phase)
-    at_work lost read phase so fits = record { then_bytes = bytes; remained = remains; same = refl; so_far = so; fits = fits; still = still_self phase }
+        → work.PhaseFits n f ptr now x bytes lost read phase → blocked_in (mk lost read phase) phase ≡ None → ReadAtWork now now x end bytes (mk lost read phase)
+    at_work lost read phase so fits clear = record { then_bytes = bytes; remained = remains; same = refl; so_far = so; fits = fits; still = still_self phase; clear = clear }
+
+    -- as a read starts, one server at most is lost
+    once_lost : (out : Option ServerId) (k j : ℕ) (b : Bool) → get_or (first_lost n ptr out) k false ≡ b → (ask : Option ℕ) → cond b (Some k) None ≡ ask
+        → ((i : ℕ) → i < n → get_or (first_lost n ptr out) i false ≡ true → is_away out (At i) ≡ true)
+        → k < n → j < n → k ≢ j → get_or (first_lost n ptr out) j false ≡ true → ask ≡ None
+    once_lost out k j true e ask is known kn jn ne gone = absurd (ne (away_once n out ptr.log ptr.stripe k j kn jn (known k kn e) (known j jn gone)))
+    once_lost out k j false e ask is known kn jn ne gone = sym is
+
+    pub starts_clear : (out : Option ServerId) (phase : Phase) → ((i : ℕ) → i < n → get_or (first_lost n ptr out) i false ≡ true → is_away out (At i) ≡ true)
+        → work.PhaseFits n f ptr now x bytes (first_lost n ptr out) [] phase → blocked_in (mk (first_lost n ptr out) [] phase) phase ≡ None
+    starts_clear out Direct known fits = refl
+    starts_clear out Lengths known fits =
+        let below = fits.below in
+        let whole = remains.whole in
+        let room = remains.room in
+        let index = div_below (ptr.offset + 0) f (n - 1) some (omega arith) in
+        once_lost out (n - 1) ((ptr.offset + 0) / f) (get_or (first_lost n ptr out) (n - 1) false) refl (blocked_in (mk (first_lost n ptr out) [] Lengths) Lengths) refl
+        known (omega arith) (omega arith) (λ e. omega arith) fits.gone
+    starts_clear out (Others lengths sum j) known fits =
+        let q = fits.1 in
+        let miss = q.missing in
+        let below = miss.below in
+        let whole = remains.whole in
+        let room = remains.room in
+        let jn = q.index in
+        let index = div_below (ptr.offset + 0) f (n - 1) some (omega arith) in
+        once_lost out j ((ptr.offset + 0) / f) (get_or (first_lost n ptr out) j false) refl (blocked_in (mk (first_lost n ptr out) [] (Others lengths sum j)) (Others lengths sum j)) refl
+        known (omega arith) (omega arith) q.other miss.gone
 
     module _ (lost : List Bool) (read : List ℕ) (phase : Phase) (t : Response) where
       abbrev Before : Reading
@@ -173,9 +206,10 @@ module _ (n f : ℕ) (ptr : Ptr) (end : ℕ) (two : 2 ≤ n) (some : 0 < f) (ins
             servers = refl;
             fragment = refl;
             ptr = refl;
-            work = is_now g.lost g.read g.phase (at_work g.lost g.read g.phase g.so_far g.fits);
+            work = is_now g.lost g.read g.phase (at_work g.lost g.read g.phase g.so_far g.fits g.clear);
             fewer = g.less;
             loses = g.known;
+            keeps = g.kept;
           }))
       from_now p is_now (inr (inl e)) = subst (LeadsTo now seen x y end bytes Before t p.0) (sym e) refl
       from_now p is_now (inr (inr b)) =
@@ -227,9 +261,11 @@ module _ (n f : ℕ) (ptr : Ptr) (end : ℕ) (two : 2 ≤ n) (some : 0 < f) (ins
               so_far = g.so_far;
               fits = g.fits;
               still = still_later g.lost g.read g.phase g.fits;
+              clear = g.clear;
             };
             fewer = g.less;
             loses = g.known;
+            keeps = g.kept;
           }))
       from_seen p (inr (inl e)) =
           subst (LeadsTo now seen x y end bytes Others_before t p.0) (sym e) (same_range end ptr.offset ptr.len w.then_bytes bytes inside w.same)
@@ -354,7 +390,22 @@ module _ (n f : ℕ) (ptr : Ptr) (end : ℕ) (two : 2 ≤ n) (some : 0 < f) (ins
       so_far = w.so_far;
       fits = w.fits;
       still = stays_still lost read phase w longer;
+      clear = w.clear;
     }
+
+  -- where the server that wasn't looked at is lost, the share that is asked was looked at
+  module _ (now seen : Maps) (y : Option ServerId) (bytes : List ℕ) where
+    clear_looked : (lost : List Bool) (j : ℕ) (away there : Bool) → (away ≡ true → there ≡ true) → cond there (Some j) None ≡ None → away ≡ false
+    clear_looked lost j false there h clear = refl
+    clear_looked lost j true there h clear = absurd (some_none j (sym (ap (λ (z : Bool). cond z (Some j) None) (h refl)) ∙ clear))
+
+    pub was_looked : (lost : List Bool) (read : List ℕ) (phase : Phase) → ReadAtWork now seen y end bytes (mk lost read phase)
+        → ((k : ℕ) → k < n → away_at n y ptr.log ptr.stripe k ≡ true → get_or lost k false ≡ true) → WasLooked n ptr y phase
+    was_looked lost read Direct w gone = tt
+    was_looked lost read Lengths w gone = tt
+    was_looked lost read (Others lengths sum j) w gone =
+        let jn = w.fits.1.index in
+        clear_looked lost j (away_at n y ptr.log ptr.stripe j) (get_or lost j false) (gone j (omega arith)) w.clear
 
 -- a read at work stays so beside a request that lets it
 module _ (now : Maps) (asked_of : ServerId × Request) where

@@ -1,5 +1,5 @@
 -- An answer from the maps may be fed to a read.
-use Rattle.std.proofs.Common.{◌≡◌, ◌≢◌, ℕ, ◌+◌, ◌-◌, ◌/◌, ◌%◌, ◌<◌, ◌≤◌, min, Bool, true, false, cond, ltb, leb, List, length, take, drop, get_or, Option, Some, None, refl, sym, ap, subst, inl, inr, arith}
+use Rattle.std.proofs.Common.{◌≡◌, ◌≢◌, ℕ, ◌+◌, ◌-◌, ◌/◌, ◌%◌, ◌<◌, ◌≤◌, min, Bool, true, false, cond, ltb, leb, List, length, take, drop, get_or, Option, Some, None, refl, sym, subst, inl, inr, arith}
 use Rattle.std.proofs.lemmas.Bool.{cond_both, ltb-true, leb-true}
 use Rattle.std.proofs.lemmas.Nat.{div_below}
 use Rattle.std.proofs.lemmas.List.{length-take-le, length-drop}
@@ -13,7 +13,7 @@ use Rattle.zb_types.specs.declared.requests.Response.TheVariants as told
 use Rattle.zb_types.specs.declared.requests.StoreFault.TheVariants as fault
 use Rattle.zb_holding.specs.Fragments.{Fragment, share_fragment, parity_fragment}
 use Rattle.zb_holding.specs.Placing.{share_of, frag_id, server_of}
-use Rattle.zb_holding.specs.Holding.{Maps, Begins, ParityRemains, StripeRemains, standing, away_at, is_away, view_of}
+use Rattle.zb_holding.specs.Holding.{Maps, Begins, ParityRemains, StripeRemains, standing, away_at, view_of}
 use Rattle.zb_holding.specs.Carrying.{found}
 use Rattle.zb_stripe.specs.declared.progress.Phase.{Phase}
 use Rattle.zb_stripe.specs.declared.progress.Phase.TheVariants.{Direct, Lengths, Others}

@@ -16,7 +16,7 @@ use Rattle.zb_stripe.specs.declared.read.Got.{Got}
 use Rattle.zb_stripe.specs.declared.read.Got.TheVariants as got
 use Rattle.zb_stripe.specs.declared.progress.Phase.{Phase}
 use Rattle.zb_stripe.specs.declared.progress.Phase.TheVariants.{Direct, Lengths, Others}
-use Rattle.zb_stripe.specs.Reading.{Reading, server_at, is_lost, asked, fed, is_more}
+use Rattle.zb_stripe.specs.Reading.{Reading, server_at, is_lost, asked, blocked_in, fed, is_more}
 
 -- some lists but one
 abbrev pub all_but : (ℕ → List ℕ) → ℕ → ℕ → List ℕ
@@ -141,7 +141,7 @@ LetsRead r request = Unit {0}
 
 -- A read at work, whose stripe is committed up to `end` with the same bytes throughout: what remained of the stripe in
 -- the maps in which its range's parity was seen, where server y wasn't looked at, is of these bytes, what it has is
--- theirs, and what it still asks for is gone or the same.
+-- theirs, and what it still asks for is gone or the same. It asks no server that is lost in place of the range's own.
 pub record ReadAtWork (now seen : Maps) (y : Option ServerId) (end : ℕ) (bytes : List ℕ) (r : Reading) : Type 0 where
   pub then_bytes : List ℕ
   pub remained : StripeRemains (view_of r.servers r.fragment seen y) r.ptr.log r.ptr.stripe end then_bytes
@@ -149,6 +149,7 @@ pub record ReadAtWork (now seen : Maps) (y : Option ServerId) (end : ℕ) (bytes
   pub so_far : SoFar r.servers r.fragment r.ptr then_bytes r.lost r.read
   pub fits : PhaseFits r.servers r.fragment r.ptr seen y then_bytes r.lost r.read r.phase
   pub still : StillStand r.servers r.ptr now seen y r.phase
+  pub clear : blocked_in r r.phase ≡ None
 
 -- The share that is asked was looked at when the parity was seen. A server that wasn't tells of no fragment later: the
 -- plan has it as lost, or a fence refuses the read.
@@ -233,6 +234,7 @@ pub record LeadsOn (now seen : Maps) (x y : Option ServerId) (end : ℕ) (bytes 
   pub fewer : answers_left before.servers before.fragment before.ptr r.read r.phase
       < answers_left before.servers before.fragment before.ptr before.read before.phase
   pub loses : LosesAsked before response r
+  pub keeps : (k : ℕ) → is_lost before k ≡ true → is_lost r k ≡ true
 
 -- what an answer leads to: the read goes on, or it ends with the stripe's bytes, with two servers that are lost, with a
 -- fragment that isn't there, or with a newer fence

@@ -1,9 +1,9 @@
-ghost use Rattle.std.specs.Prelude.{◌≡◌, ℕ, ◌+◌, ◌*◌, ◌<◌, ◌≤◌, List, length, take, drop, Option, Some, IfSome, IsSome};
+ghost use Rattle.std.specs.Prelude.{◌≡◌, ℕ, ◌+◌, ◌*◌, ◌<◌, ◌≤◌, List, length, take, drop, true, Option, Some, IfSome, IsSome};
 ghost use Rattle.zb_types.specs.declared.ids.ServerId.{ServerId};
 ghost use Rattle.zb_types.specs.declared.ids.Ptr.{Ptr};
 ghost use Rattle.zb_types.specs.declared.requests.Request.{Request};
 ghost use Rattle.zb_types.specs.declared.requests.Response.{Response};
-ghost use Rattle.zb_holding.specs.Holding.{Maps, View, view_of, StripeHolds, StripeRemains, is_away};
+ghost use Rattle.zb_holding.specs.Holding.{Maps, View, view_of, StripeHolds, StripeRemains, is_away, away_at};
 ghost use Rattle.zb_holding.specs.Carrying.{carried};
 ghost use Rattle.zb_stripe.specs.Reading.{Reading, start, server_at, is_lost, asked, fed, answered, Answers};
 ghost use Rattle.zb_stripe_laws.specs.ReadAtWork.{
@@ -38,10 +38,11 @@ pub fn read_gives_bytes()
 {}
 
 /// A read while others write, answer by answer: it begins at work over what remains of its stripe, and stays so over maps
-/// with the same committed bytes whose shares are gone, grow or are put back, as beside any request but one that puts another fragment
-/// in the place of a share. An answer from the maps of now may be fed, and leads it on, or to an end that is right; then the
-/// maps of now are those in which the parity was seen, but where another share was asked for. It is gone only where
-/// the fragment that is asked for isn't there: of a stripe that is held, another share than the range's own.
+/// with the same committed bytes whose shares are gone, grow or are put back, as beside any request but one that puts
+/// another fragment in the place of a share. An answer from the maps of now may be fed, and leads it on, or to an end that
+/// is right; where no other share was asked for, the parity is seen in these maps. A share of the server that wasn't looked
+/// at then isn't asked for where that server is lost. The read is gone only where the fragment that is asked for isn't
+/// there: of a stripe that is held, another share than the range's own.
 pub fn read_goes_on()
     ensures begins { (v : View) (out : Option ServerId) (ptr : Ptr) (end : ℕ) (bytes : List ℕ)
         → 2 ≤ v.servers → 0 < v.fragment → 0 < ptr.len → ptr.offset + ptr.len ≤ end
@@ -63,6 +64,11 @@ pub fn read_goes_on()
         → StripeRemains (view_of r.servers r.fragment now x) r.ptr.log r.ptr.stripe end bytes
         → asked r ≡ Some one → MayTell now x (asked r) response
         → Answers r.servers (asked r) response }
+    ensures looked { (now seen : Maps) (y : Option ServerId) (end : ℕ) (bytes : List ℕ) (r : Reading)
+        → ReadAtWork now seen y end bytes r
+        → 2 ≤ r.servers → 0 < r.fragment → r.ptr.offset + r.ptr.len ≤ end
+        → ((k : ℕ) → k < r.servers → away_at r.servers y r.ptr.log r.ptr.stripe k ≡ true → is_lost r k ≡ true)
+        → WasLooked r.servers r.ptr y r.phase }
     ensures goes_on { (now seen : Maps) (x y : Option ServerId) (end : ℕ) (bytes : List ℕ) (r : Reading) (response : Response)
         → ReadAtWork now seen y end bytes r
         → 2 ≤ r.servers → 0 < r.fragment → r.ptr.offset + r.ptr.len ≤ end

@@ -14,6 +14,7 @@ ghost use Rattle.zb_stripe_laws.specs.ReadAtWork.{
   WasLooked,
   TellsOfFragment,
   MayTell,
+  LeadsOn,
   LeadsTo,
 };
 
@@ -36,9 +37,16 @@ pub fn a_read_stays_while_its_stripe_grows()
 
 /// A read begins over what remains of its stripe, and its first answer leads it on: this is the parity where the range's
 /// own server is out. Then a request that lets it is carried out. The second answer, of the share that is asked for next
-/// and from the maps as they are by now, leads it on or to an end that is right.
+/// and from the maps as they are by now, leads it on or to an end that is right: if the share was looked at as the parity
+/// was seen, and so at any rate where the server that wasn't looked at is the one that the read leaves out.
 pub fn a_read_goes_on_through_parity()
-    ensures { (v : View) (out x : Option ServerId) (ptr : Ptr) (end : ℕ) (bytes : List ℕ) (first second : Response) (between : ServerId × Request) (r : Reading)
+    ensures led { (v : View) (out : Option ServerId) (ptr : Ptr) (end : ℕ) (bytes : List ℕ) (first : Response) (r : Reading)
+        → 2 ≤ v.servers → 0 < v.fragment → 0 < ptr.len → ptr.offset + ptr.len ≤ end
+        → StripeRemains v ptr.log ptr.stripe end bytes
+        → MayTell v.maps v.away (asked (start v.servers v.fragment ptr out)) first
+        → fed (start v.servers v.fragment ptr out) first ≡ (r, Got.More)
+        → LeadsOn v.maps v.maps v.away v.away end bytes (start v.servers v.fragment ptr out) first r }
+    ensures looked { (v : View) (out x : Option ServerId) (ptr : Ptr) (end : ℕ) (bytes : List ℕ) (first second : Response) (between : ServerId × Request) (r : Reading)
         → 2 ≤ v.servers → 0 < v.fragment → 0 < ptr.len → ptr.offset + ptr.len ≤ end
         → StripeRemains v ptr.log ptr.stripe end bytes
         → MayTell v.maps v.away (asked (start v.servers v.fragment ptr out)) first
@@ -46,6 +54,15 @@ pub fn a_read_goes_on_through_parity()
         → LetsRead r between.1
         → StripeRemains (view_of v.servers v.fragment (carried v.maps between) x) ptr.log ptr.stripe end bytes
         → (TellsOfFragment second → WasLooked v.servers ptr v.away r.phase)
+        → MayTell (carried v.maps between) x (asked r) second
+        → LeadsTo (carried v.maps between) v.maps x v.away end bytes r second (fed r second).0 (fed r second).1 }
+    ensures left_out { (v : View) (x : Option ServerId) (ptr : Ptr) (end : ℕ) (bytes : List ℕ) (first second : Response) (between : ServerId × Request) (r : Reading)
+        → 2 ≤ v.servers → 0 < v.fragment → 0 < ptr.len → ptr.offset + ptr.len ≤ end
+        → StripeRemains v ptr.log ptr.stripe end bytes
+        → MayTell v.maps v.away (asked (start v.servers v.fragment ptr v.away)) first
+        → fed (start v.servers v.fragment ptr v.away) first ≡ (r, Got.More)
+        → LetsRead r between.1
+        → StripeRemains (view_of v.servers v.fragment (carried v.maps between) x) ptr.log ptr.stripe end bytes
         → MayTell (carried v.maps between) x (asked r) second
         → LeadsTo (carried v.maps between) v.maps x v.away end bytes r second (fed r second).0 (fed r second).1 }
 {

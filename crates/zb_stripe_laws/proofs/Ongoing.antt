@@ -395,9 +395,9 @@ module _ (n f : ℕ) (ptr : Ptr) (end : ℕ) (two : 2 ≤ n) (some : 0 < f) (ins
 
   -- where the server that wasn't looked at is lost, the share that is asked was looked at
   module _ (now seen : Maps) (y : Option ServerId) (bytes : List ℕ) where
-    clear_looked : (lost : List Bool) (j : ℕ) (away there : Bool) → (away ≡ true → there ≡ true) → cond there (Some j) None ≡ None → away ≡ false
-    clear_looked lost j false there h clear = refl
-    clear_looked lost j true there h clear = absurd (some_none j (sym (ap (λ (z : Bool). cond z (Some j) None) (h refl)) ∙ clear))
+    clear_looked : (j : ℕ) (away there : Bool) → (away ≡ true → there ≡ true) → cond there (Some j) None ≡ None → away ≡ false
+    clear_looked j false there h clear = refl
+    clear_looked j true there h clear = absurd (some_none j (sym (ap (λ (z : Bool). cond z (Some j) None) (h refl)) ∙ clear))
 
     pub was_looked : (lost : List Bool) (read : List ℕ) (phase : Phase) → ReadAtWork now seen y end bytes (mk lost read phase)
         → ((k : ℕ) → k < n → away_at n y ptr.log ptr.stripe k ≡ true → get_or lost k false ≡ true) → WasLooked n ptr y phase
@@ -405,7 +405,7 @@ module _ (n f : ℕ) (ptr : Ptr) (end : ℕ) (two : 2 ≤ n) (some : 0 < f) (ins
     was_looked lost read Lengths w gone = tt
     was_looked lost read (Others lengths sum j) w gone =
         let jn = w.fits.1.index in
-        clear_looked lost j (away_at n y ptr.log ptr.stripe j) (get_or lost j false) (gone j (omega arith)) w.clear
+        clear_looked j (away_at n y ptr.log ptr.stripe j) (get_or lost j false) (gone j (omega arith)) w.clear
 
 -- a read at work stays so beside a request that lets it
 module _ (now : Maps) (asked_of : ServerId × Request) where

@@ -76,10 +76,10 @@ module _ (n f : ℕ) (ptr : Ptr) (end : ℕ) (two : 2 ≤ n) (some : 0 < f) (ins
       (of_parity n f (standing n now ptr.log ptr.stripe) (away_at n x ptr.log ptr.stripe) end bytes (At (n - 1)).1 place len (standing n now ptr.log ptr.stripe (n - 1)) refl (remains.parity is.0))
   parity_fits place len t (inr old) = subst (AnswersRetrieve n (At (n - 1)).1 len) (sym old.1) tt
 
-  direct_fits : (read : List ℕ) (b : Bool) (k place len : ℕ) (t : Response) → b ≡ true → k < n - 1
+  direct_fits : (b : Bool) (k place len : ℕ) (t : Response) → b ≡ true → k < n - 1
       → MayTell now x (cond b (Some ((At k).0, ask.Retrieve (At k).1 place len)) None) t → Answers n (cond b (Some ((At k).0, ask.Retrieve (At k).1 place len)) None) t
-  direct_fits read true k place len t e below tells = share_fits k place len t below tells
-  direct_fits read false k place len t e below tells = absurd cc
+  direct_fits true k place len t e below tells = share_fits k place len t below tells
+  direct_fits false k place len t e below tells = absurd cc
 
   pub may_be_fed : (lost : List Bool) (read : List ℕ) (phase : Phase) (t : Response) → ReadAtWork now seen y end bytes (mk lost read phase)
       → (one : ServerId × Request) → asked (mk lost read phase) ≡ Some one → MayTell now x (asked (mk lost read phase)) t → Answers n (asked (mk lost read phase)) t
@@ -91,7 +91,7 @@ module _ (n f : ℕ) (ptr : Ptr) (end : ℕ) (two : 2 ≤ n) (some : 0 < f) (ins
       let below = ltb-true pos last left in
       let whole = remains.whole in
       let room = remains.room in
-      direct_fits read (ltb pos last) (pos / f) (pos % f) len t left (div_below pos f (n - 1) some (omega arith)) tells
+      direct_fits (ltb pos last) (pos / f) (pos % f) len t left (div_below pos f (n - 1) some (omega arith)) tells
   may_be_fed lost read Lengths t w one stands tells =
       let pos = ptr.offset + length read in
       parity_fits (pos % f) (min (ptr.offset + ptr.len - pos) (f - pos % f)) t tells

@@ -4,7 +4,7 @@ ghost use Rattle.zb_stripe.specs.Writing.{StripesRise};
 ghost use Rattle.zb_log.specs.declared.placed.LogFault.TheVariants.{Worn};
 ghost use Rattle.zb_log.specs.Places.{place, range_of, BeginsNext, InOrder};
 ghost use Rattle.zb_log.specs.Placing.{last_stripe, AreBlocks, OneAStripe};
-ghost use Rattle.zb_log.specs.Sealing.{parts_of, read_at, StandEach, GoesNext};
+ghost use Rattle.zb_log.specs.Sealing.{parts_of, read_at, IsPartOf, StandEach, GoesNext};
 ghost use Rattle.zb_log.specs.Logs.{SeenLog, IsSound, IsPlaced, IsSealed, IsPtrIn, Gives, laid_next, behind_meta, last_of, end_with, gone_on, renewed};
 
 use crate::laying::lay;
@@ -122,6 +122,9 @@ impl LogBuf {
         // Read at the pieces, one behind the other, the parts give the meta part and the blocks.
         ensures whole { IfOk result
             (λ flush. read_at placed.now.pieces flush.parts ≡ meta.now ++ concat blocks.now) }
+
+        // There is a part for each piece, which ends where the piece does.
+        ensures pieces { IfOk result (λ flush. AllZip IsPartOf placed.now.pieces flush.parts) }
 
         // Each block stands at its address.
         ensures blocks { IfOk result (λ flush. StandEach flush.parts placed.now.ptrs blocks.now) }

@@ -2,7 +2,7 @@ ghost use Rattle.std.specs.Prelude.{◌≡◌, ◌+◌, ◌-◌, ◌*◌, ◌<�
 ghost use Rattle.std.specs.List.{AllZip, concat};
 ghost use Rattle.zb_stripe.specs.Writing.{StripesRise};
 ghost use Rattle.zb_log.specs.declared.placed.LogFault.TheVariants.{Worn};
-ghost use Rattle.zb_log.specs.Places.{place, range_of, BeginsNext, InOrder};
+ghost use Rattle.zb_log.specs.Places.{place, range_of, IsUpTo, BeginsNext, InOrder};
 ghost use Rattle.zb_log.specs.Placing.{last_stripe, AreBlocks, OneAStripe};
 ghost use Rattle.zb_log.specs.Sealing.{parts_of, read_at, IsPartOf, StandEach, GoesNext};
 ghost use Rattle.zb_log.specs.Logs.{SeenLog, IsSound, IsPlaced, IsSealed, IsPtrIn, Gives, laid_next, behind_meta, last_of, end_with, gone_on, renewed};
@@ -170,10 +170,14 @@ impl LogBuf {
         self.next = placed.next;
     }
 
-    /// Goes on at the start of the stripe behind `last`, and gives the addresses in the stripes above `last` back:
-    /// `last` is the last stripe that a request was delivered for.
+    /// Goes on at the start of the stripe behind `last`, the last stripe that a request was delivered for. It isn't
+    /// below the stripe of the last flush that reached its end, where the log goes on. The addresses above it of a
+    /// batch that was placed, and didn't reach its end, were not given, and may be placed again.
     pub fn next_stripe(&mut self, last: u64)
-        requires { last ≤ last_stripe }
+        requires lasting { last ≤ last_stripe }
+
+        // No address that was given lies behind.
+        requires behind { IsUpTo self.old.next (place (last + 1) 0) }
         ensures { self.new ≡ renewed self.old last }
     {
         self.next = Place {

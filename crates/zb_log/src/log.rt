@@ -1,11 +1,11 @@
 ghost use Rattle.std.specs.Prelude.{◌≡◌, ◌+◌, ◌-◌, ◌*◌, ◌<◌, ◌≤◌, ◌++◌, ◌↔◌, IfOk, IsErrOf, All, length, map, []};
-ghost use Rattle.std.specs.List.{AllZip, concat};
+ghost use Rattle.std.specs.List.{AllZip, concat, sum};
 ghost use Rattle.zb_stripe.specs.Writing.{StripesRise};
 ghost use Rattle.zb_log.specs.declared.placed.LogFault.TheVariants.{Worn};
 ghost use Rattle.zb_log.specs.Places.{place, range_of, IsUpTo, BeginsNext, InOrder};
 ghost use Rattle.zb_log.specs.Placing.{last_stripe, AreBlocks, OneAStripe};
 ghost use Rattle.zb_log.specs.Sealing.{parts_of, read_at, IsPartOf, StandEach, GoesNext};
-ghost use Rattle.zb_log.specs.Logs.{SeenLog, IsSound, IsPlaced, IsSealed, IsPtrIn, Gives, laid_next, behind_meta, last_of, end_with, gone_on, renewed};
+ghost use Rattle.zb_log.specs.Logs.{SeenLog, IsSound, IsPlaced, LiesInFew, IsSealed, IsPtrIn, Gives, laid_next, behind_meta, last_of, end_with, gone_on, renewed};
 
 use crate::laying::lay;
 use crate::placed::{LogFault, Placed};
@@ -85,6 +85,9 @@ impl LogBuf {
         // The pieces lie behind the place that the log goes on at, each behind the one before.
         ensures order { IfOk result (λ placed. InOrder self.now.room self.now.next placed.pieces placed.next) }
         ensures one_a_stripe { IfOk result (λ placed. OneAStripe placed.pieces) }
+
+        // A batch takes few stripes and pieces for its length.
+        ensures few { IfOk result (λ placed. LiesInFew self.now (meta + sum blocks.now) placed) }
 
         // No byte is left out at the start of a stripe, nor where the log goes on.
         ensures begin { IfOk result (λ placed. All (BeginsNext self.now.next) placed.pieces) }

@@ -8,9 +8,9 @@ use Rattle.zb_types.specs.declared.ids.Piece.{Piece}
 use Rattle.zb_log.specs.declared.places.Place.{Place}
 use Rattle.zb_log.specs.declared.placed.Placed.{Placed}
 use Rattle.zb_log.specs.Places.{place, behind, BeginsNext}
-use Rattle.zb_log.specs.Placing.{pieces_of, room_at, behind_room, meta_end, blocks_end, AreBlocks}
+use Rattle.zb_log.specs.Placing.{pieces_of, behind_room, meta_end, blocks_end, AreBlocks}
 use Rattle.zb_log.specs.Logs.{SeenLog, IsSound, laid_next, LiesInFew}
-use Rattle.zb_log.proofs.Order.{IsLaid, Rises, pieces_rise, pieces_begin}
+use Rattle.zb_log.proofs.Order.{Rises, pieces_rise, pieces_begin}
 use Rattle.zb_log.proofs.Ends.{next_end}
 use Rattle.zb_log.proofs.Placings.{next_laid}
 

@@ -86,12 +86,15 @@ batch_found header ops bytes rest behind read found agrees =
       batch_parts batch behind ∙ ap (λ (x : Header). header_text x ++ (ops_text ops ++ behind)) same ∙ ap (λ (t : List ℕ). header_text header ++ t) found.1 ∙ read.1,
     )
 
+-- the spelling of a batch is its meta part
+pub length-spelling_of_batch : (batch : Batch) → length (spelling_of_batch batch) ≡ meta_length batch
+length-spelling_of_batch batch =
+    omega (arith, ap length (batch_parts batch []), length-append (spelling_of_batch batch) [], length-append (header_text (header_of batch)) (ops_text batch.ops ++ []), length-append (ops_text batch.ops) [], length-header_text (header_of batch))
+
 -- what is left stands behind the meta part
 pub left_behind : (batch : Batch) (bytes rest : List ℕ) → IsBatch batch × (spelling_of_batch batch ++ rest ≡ bytes) → IsBatch batch × (spelling_of_batch batch ++ drop (meta_length batch) bytes ≡ bytes)
 left_behind batch bytes rest h =
-    let size : length (spelling_of_batch batch) ≡ meta_length batch =
-    omega (arith, ap length (batch_parts batch []), length-append (spelling_of_batch batch) [], length-append (header_text (header_of batch)) (ops_text batch.ops ++ []), length-append (ops_text batch.ops) [], length-header_text (header_of batch)) in
-    let behind : drop (meta_length batch) bytes ≡ rest = ap (drop (meta_length batch)) (sym h.1) ∙ drop_at (spelling_of_batch batch) rest (meta_length batch) size in
+    let behind : drop (meta_length batch) bytes ≡ rest = ap (drop (meta_length batch)) (sym h.1) ∙ drop_at (spelling_of_batch batch) rest (meta_length batch) (length-spelling_of_batch batch) in
     (h.0, ap (λ (t : List ℕ). spelling_of_batch batch ++ t) behind ∙ h.1)
 
 pub read_again : (bytes : List ℕ) (found : Option (Batch × List ℕ)) → ReadsFront IsBatch spelling_of_batch bytes found → (batch : Batch) (rest : List ℕ) → IsBatch batch → spelling_of_batch batch ++ rest ≡ bytes → found ≡ Some (batch, rest)

@@ -54,7 +54,7 @@ paths_length (ListOf path) = 0
 paths_length (Stat path) = 0
 paths_length (Find path) = 0
 
--- how many bytes an operation takes
+-- how many bytes an operation takes: 58 for each delta
 abbrev pub op_length : Op → ℕ
 op_length (Name call what) = 9 + paths_length what
 op_length (Write call fid version offset len deltas) = 9 + (24 + 58 * length deltas)

@@ -12,4 +12,4 @@ mod owners;
 mod paths;
 
 pub use batch::{Batch, Op, OpList};
-pub use laws::batches_are_prefix_free;
+pub use laws::{batches_are_prefix_free, batches_have_their_length};

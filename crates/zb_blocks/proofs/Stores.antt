@@ -15,7 +15,6 @@ use Rattle.zb_stripe_laws.specs.PartAtWork.{MayBegin, AreElsewhere, StripesDiffe
 use Rattle.zb_stripe_laws.proofs.Working.{others_elsewhere}
 use Rattle.zb_log.specs.declared.places.Place.{Place}
 use Rattle.zb_log.specs.declared.placed.Placed.{Placed}
-use Rattle.zb_log.specs.Placing.{last_stripe}
 use Rattle.zb_log.specs.Sealing.{StandEach, StandsIn}
 use Rattle.zb_log.specs.Places.{place}
 use Rattle.zb_log.specs.Logs.{SeenLog, last_of, end_with, bytes_with, gone_on}
@@ -46,9 +45,6 @@ module _ (old : SeenBlocks) (s : IsSound old) (blocks : List (List ℕ)) (placed
       subst (λ (z : LogId). All (MayBegin (view_of old.servers old.fragment (maps_of old.kept) None) z) flush.parts) (sym log_is)
       (All-from_recursion (MayBegin (view_of old.servers old.fragment (maps_of old.kept) None) blocks_log) flush.parts
       (each_to (Next old s) (MayBegin (view_of old.servers old.fragment (maps_of old.kept) None) blocks_log) flush.parts (may_begin old s) Going.each))
-
-  pub parts_last : All (λ part. part.stripe ≤ last_stripe) flush.parts
-  parts_last = All-from_recursion (λ (part : Part). part.stripe ≤ last_stripe) flush.parts (each_to (Next old s) (λ part. part.stripe ≤ last_stripe) flush.parts (λ part next. next.lasting) Going.each)
 
   module _ (laws : KeepsStripes old.servers old.fragment (maps_of old.kept) flush flush.log) (kept : List Entries) (ends : List ℕ)
       (carried : maps_of kept ≡ carried_all (maps_of old.kept) (Plan old.servers old.fragment flush))

@@ -2,7 +2,8 @@ ghost use Rattle.std.specs.Prelude.{◌≡◌, ℕ, ◌-◌, ◌*◌, ◌^◌, �
 ghost use Rattle.zb_holding.specs.Carrying.{carried_all};
 ghost use Rattle.zb_stripe.specs.Writing.{plan_requests, IsWritable, StripesRise};
 ghost use Rattle.zb_stripe_laws.specs.PartAtWork.{MayBegin, StripesDiffer};
-ghost use Rattle.zb_log.specs.Placing.{last_stripe, AreBlocks};
+ghost use Rattle.zb_log.specs.Placing.{AreBlocks};
+ghost use Rattle.zb_log.specs.Sealing.{GoesNext};
 ghost use Rattle.zb_log.specs.Logs.{last_of};
 ghost use Rattle.zb_plain.specs.Standing.{maps_of, seen_at};
 ghost use Rattle.zb_plain.specs.Delivering.{IsBegun};
@@ -43,7 +44,7 @@ pub(crate) fn flush(log: &LogBuf, alloc: Global, blocks: &[ByteList]) -> Mem<(Pl
 
 /// Lets a log go on behind the last stripe of a flush.
 pub(crate) fn leave(log: &mut LogBuf, flush: &Flush)
-    requires { All (λ part. part.stripe ≤ last_stripe) flush.now.parts }
+    requires { All (GoesNext log.old.room log.old.next.stripe log.old.bytes) flush.now.parts }
     ensures { log.new ≡ behind_part log.old (last_of flush.now.parts) }
 {
     if let Some(last) = flush.parts.slice().last() {

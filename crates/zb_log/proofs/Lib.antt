@@ -6,3 +6,4 @@ pub mod Standing
 pub mod Parting
 pub mod Pointers
 pub mod Ends
+pub mod Few

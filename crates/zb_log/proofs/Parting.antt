@@ -1,7 +1,7 @@
 -- The parts of a batch that was placed last.
 use Rattle.std.proofs.Common.{◌∙◌, ◌≡◌, inl, inr, ℕ, ◌+◌, ◌-◌, ◌<◌, ◌≤◌, List, [], ◌∷◌, ◌++◌, length, take, drop, map, refl, sym, ap, subst, arith}
 use Rattle.std.specs.Prelude.{slice_get, Option, None, Some}
-use Rattle.std.specs.List.{AllByRecursion, concat}
+use Rattle.std.specs.List.{AllByRecursion, AllZip, concat}
 use Rattle.std.proofs.lemmas.List.{take-append-drop, nil_from_length, take_all, take_at, drop_at, length-append, length-drop, length-take-le}
 use Rattle.std.proofs.lemmas.List.Elements.{recursion_from_All, All-from_recursion}
 use Rattle.std.proofs.lemmas.List.Kept.{AllPairs-cons}
@@ -14,7 +14,7 @@ use Rattle.zb_log.specs.declared.places.Place.{Place}
 use Rattle.zb_log.specs.declared.placed.Placed.{Placed}
 use Rattle.zb_log.specs.Places.{place, piece_at, end_of, BeginsNext, InOrder}
 use Rattle.zb_log.specs.Placing.{Laid, begun, between, pieces_of, with_meta, last_stripe, AreBlocks}
-use Rattle.zb_log.specs.Sealing.{part_of, given_of, parts_of, HaveBytes, GoesNext, StandEach, read_at}
+use Rattle.zb_log.specs.Sealing.{part_of, given_of, parts_of, HaveBytes, IsPartOf, GoesNext, StandEach, read_at}
 use Rattle.zb_log.specs.Logs.{SeenLog, IsSound, IsPlaced, IsSealed, laid_next, last_of, bytes_with, end_with, gone_on}
 use Rattle.zb_log.proofs.Steps.{meta_room}
 use Rattle.zb_log.proofs.Order.{HasBytes, order_rises, pieces_order, pieces_some, pieces_begin, Rises, pieces_rise}
@@ -76,6 +76,12 @@ parts_read w given (piece ∷ pieces) new have long =
     ap (λ (z : List ℕ). z ++ read_at pieces (parts_of w given pieces (drop piece.len new))) (piece_read (given_of w given piece.stripe) piece new have.1 have.0)
     ∙ ap (λ (z : List ℕ). take piece.len new ++ z) (parts_read w given pieces (drop piece.len new) have.2 rest)
     ∙ take-append-drop piece.len new
+
+-- each part is that of its piece
+parts_are : (w : ℕ) (given : List ℕ) (pieces : List Piece) (new : List ℕ) → HaveBytes w given pieces new → AllZip IsPartOf pieces (parts_of w given pieces new)
+parts_are w given [] new have = tt
+parts_are w given (piece ∷ pieces) new have =
+    (record { stripe = refl; begin = have.1; end = part_long (given_of w given piece.stripe) piece new have.1 have.0 }, parts_are w given pieces (drop piece.len new) have.2)
 
 -- the last of some parts and one more
 last_push : (parts : List Part) (part : Part) → last_of (parts ++ part ∷ []) ≡ Some part
@@ -157,6 +163,7 @@ module _ (seen : SeenLog) (s : IsSound seen) (meta : List ℕ) (blocks : List (L
 pub record CanSeal (seen : SeenLog) (meta : List ℕ) (blocks : List (List ℕ)) (pieces : List Piece) (ptrs : List Ptr) (next : Place) : Type 0 where
   pub have : HaveBytes seen.next.stripe seen.bytes pieces (meta ++ concat blocks)
   pub each : AllByRecursion (GoesNext seen.room seen.next.stripe seen.bytes) (parts_of seen.next.stripe seen.bytes pieces (meta ++ concat blocks))
+  pub are : AllZip IsPartOf pieces (parts_of seen.next.stripe seen.bytes pieces (meta ++ concat blocks))
   pub stand : StandEach (parts_of seen.next.stripe seen.bytes pieces (meta ++ concat blocks)) ptrs blocks
   pub rise : StripesRise (parts_of seen.next.stripe seen.bytes pieces (meta ++ concat blocks))
   pub reads : read_at pieces (parts_of seen.next.stripe seen.bytes pieces (meta ++ concat blocks)) ≡ meta ++ concat blocks
@@ -167,7 +174,7 @@ can_seal seen meta blocks placed s p =
     let laid = laid_next seen (length meta) (map length blocks) in
     let low = subst (λ (z : Place). z.stripe ≤ last_stripe) p.next p.lasting in
     let facts = sealed seen s meta blocks p.lens low in
-    let first : CanSeal seen meta blocks (pieces_of laid) laid.ptrs laid.next = record { have = facts.0; each = facts.1; stand = stand seen s meta blocks p.lens; rise = rise seen s meta blocks p.lens; reads = reads seen s meta blocks p.lens facts.0; ends = ends seen s meta blocks p.lens } in
+    let first : CanSeal seen meta blocks (pieces_of laid) laid.ptrs laid.next = record { have = facts.0; each = facts.1; are = parts_are seen.next.stripe seen.bytes (pieces_of laid) (meta ++ concat blocks) facts.0; stand = stand seen s meta blocks p.lens; rise = rise seen s meta blocks p.lens; reads = reads seen s meta blocks p.lens facts.0; ends = ends seen s meta blocks p.lens } in
     subst (λ (z : Place). CanSeal seen meta blocks placed.pieces placed.ptrs z) (sym p.next)
     (subst (λ (z : List Piece). CanSeal seen meta blocks z placed.ptrs laid.next) (sym p.pieces)
     (subst (λ (z : List Ptr). CanSeal seen meta blocks (pieces_of laid) z laid.next) (sym p.ptrs) first))

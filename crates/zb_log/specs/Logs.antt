@@ -1,5 +1,5 @@
 -- What contracts see of a log.
-use Rattle.std.specs.Prelude.{◌≡◌, ℕ, ◌+◌, ◌-◌, ◌≤◌, ◌<◌, List, [], ◌++◌, length, map, slice_get, Option, None, Some, Any}
+use Rattle.std.specs.Prelude.{◌≡◌, ℕ, ◌+◌, ◌-◌, ◌*◌, ◌≤◌, ◌<◌, List, [], ◌++◌, length, map, slice_get, Option, None, Some, Any}
 use Rattle.std.specs.List.{concat}
 use Rattle.zb_types.specs.declared.ids.LogId.{LogId}
 use Rattle.zb_types.specs.declared.ids.Piece.{Piece}
@@ -44,6 +44,12 @@ pub record IsPlaced (seen : SeenLog) (meta : ℕ) (blocks : List ℕ) (placed : 
   pub ptrs : placed.ptrs ≡ (laid_next seen meta blocks).ptrs
   pub next : placed.next ≡ (laid_next seen meta blocks).next
   pub lasting : placed.next.stripe ≤ last_stripe
+
+-- where n bytes that were placed next lie: each stripe that they begin and leave takes at least `room - block` of
+-- them, and there is at most one piece a stripe
+pub record LiesInFew (seen : SeenLog) (n : ℕ) (placed : Placed) : Type 0 where
+  pub stripes : (placed.next.stripe - seen.next.stripe - 1) * (seen.room - seen.block) ≤ n
+  pub pieces : length placed.pieces ≤ placed.next.stripe - seen.next.stripe + 1
 
 -- the parts of a batch that was placed next in the log, with its bytes
 pub record IsSealed (seen : SeenLog) (placed : Placed) (flush : Flush) : Type 0 where

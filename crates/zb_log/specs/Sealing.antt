@@ -1,5 +1,5 @@
 -- The bytes of a placed batch, stripe by stripe.
-use Rattle.std.specs.Prelude.{◌≡◌, ℕ, ◌≤◌, ◌==◌, List, [], ◌∷◌, ◌++◌, length, take, drop, if◌then◌else◌, Any}
+use Rattle.std.specs.Prelude.{◌≡◌, ℕ, ◌+◌, ◌≤◌, ◌==◌, List, [], ◌∷◌, ◌++◌, length, take, drop, if◌then◌else◌, Any}
 use Rattle.std.specs.List.{AllZip}
 use Rattle.zb_types.specs.declared.ids.Piece.{Piece}
 use Rattle.zb_types.specs.declared.ids.Ptr.{Ptr}
@@ -28,6 +28,12 @@ HaveBytes at_work given [] new = Unit {0}
 HaveBytes at_work given (piece ∷ pieces) new =
     (piece.len ≤ length new) × (length (given_of at_work given piece.stripe) ≡ piece.offset)
     × HaveBytes at_work given pieces (drop piece.len new)
+
+-- a part has the stripe of its piece, its new bytes begin where the piece does, and it ends where the piece does
+pub record IsPartOf (piece : Piece) (part : Part) : Type 0 where
+  pub stripe : part.stripe ≡ piece.stripe
+  pub begin : part.begin ≡ piece.offset
+  pub end : length part.bytes ≡ piece.offset + piece.len
 
 -- a block stands in a part, at its address
 pub record StandsIn (ptr : Ptr) (block : List ℕ) (part : Part) : Type 0 where

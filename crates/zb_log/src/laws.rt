@@ -1,7 +1,6 @@
 ghost use Rattle.zb_log.specs.Runs.{GivesNoAddressTwice};
 
-/// Whatever calls are made of a log, in any order, no address is given twice, but for those that a `next_stripe`
-/// between gave back.
+/// Whatever calls are made of a log, in any order, no address is given twice.
 pub fn no_address_twice()
     ensures { GivesNoAddressTwice }
 {}

@@ -1,11 +1,11 @@
 ghost use Rattle.std.specs.Prelude.{◌≡◌, ◌+◌, ◌-◌, ◌*◌, ◌<◌, ◌≤◌, ◌++◌, ◌↔◌, IfOk, IsErrOf, All, length, map, []};
-ghost use Rattle.std.specs.List.{AllZip, concat};
+ghost use Rattle.std.specs.List.{AllZip, concat, sum};
 ghost use Rattle.zb_stripe.specs.Writing.{StripesRise};
 ghost use Rattle.zb_log.specs.declared.placed.LogFault.TheVariants.{Worn};
-ghost use Rattle.zb_log.specs.Places.{place, range_of, BeginsNext, InOrder};
+ghost use Rattle.zb_log.specs.Places.{place, range_of, IsUpTo, BeginsNext, InOrder};
 ghost use Rattle.zb_log.specs.Placing.{last_stripe, AreBlocks, OneAStripe};
-ghost use Rattle.zb_log.specs.Sealing.{parts_of, read_at, StandEach, GoesNext};
-ghost use Rattle.zb_log.specs.Logs.{SeenLog, IsSound, IsPlaced, IsSealed, IsPtrIn, Gives, laid_next, behind_meta, last_of, end_with, gone_on, renewed};
+ghost use Rattle.zb_log.specs.Sealing.{parts_of, read_at, IsPartOf, StandEach, GoesNext};
+ghost use Rattle.zb_log.specs.Logs.{SeenLog, IsSound, IsPlaced, LiesInFew, IsSealed, IsPtrIn, Gives, laid_next, behind_meta, last_of, end_with, gone_on, renewed};
 
 use crate::laying::lay;
 use crate::placed::{LogFault, Placed};
@@ -86,6 +86,9 @@ impl LogBuf {
         ensures order { IfOk result (λ placed. InOrder self.now.room self.now.next placed.pieces placed.next) }
         ensures one_a_stripe { IfOk result (λ placed. OneAStripe placed.pieces) }
 
+        // A batch takes few stripes and pieces for its length.
+        ensures few { IfOk result (λ placed. LiesInFew self.now (meta + sum blocks.now) placed) }
+
         // No byte is left out at the start of a stripe, nor where the log goes on.
         ensures begin { IfOk result (λ placed. All (BeginsNext self.now.next) placed.pieces) }
 
@@ -122,6 +125,9 @@ impl LogBuf {
         // Read at the pieces, one behind the other, the parts give the meta part and the blocks.
         ensures whole { IfOk result
             (λ flush. read_at placed.now.pieces flush.parts ≡ meta.now ++ concat blocks.now) }
+
+        // There is a part for each piece, which ends where the piece does.
+        ensures pieces { IfOk result (λ flush. AllZip IsPartOf placed.now.pieces flush.parts) }
 
         // Each block stands at its address.
         ensures blocks { IfOk result (λ flush. StandEach flush.parts placed.now.ptrs blocks.now) }
@@ -167,10 +173,14 @@ impl LogBuf {
         self.next = placed.next;
     }
 
-    /// Goes on at the start of the stripe behind `last`, and gives the addresses in the stripes above `last` back:
-    /// `last` is the last stripe that a request was delivered for.
+    /// Goes on at the start of the stripe behind `last`, the last stripe that a request was delivered for. It isn't
+    /// below the stripe of the last flush that reached its end, where the log goes on. The addresses above it of a
+    /// batch that was placed, and didn't reach its end, were not given, and may be placed again.
     pub fn next_stripe(&mut self, last: u64)
-        requires { last ≤ last_stripe }
+        requires lasting { last ≤ last_stripe }
+
+        // No address that was given lies behind.
+        requires behind { IsUpTo self.old.next (place (last + 1) 0) }
         ensures { self.new ≡ renewed self.old last }
     {
         self.next = Place {

@@ -1,4 +1,5 @@
-ghost use Rattle.std.specs.Prelude.{◌≡◌, ◌≤◌, OnOk};
+ghost use Rattle.std.specs.Prelude.{◌≡◌, ◌≤◌, IfOk, OnOk};
+ghost use Rattle.zb_log.specs.Placing.{last_stripe};
 
 use std::alloc::Global;
 use std::test::Fail;
@@ -18,7 +19,9 @@ fn commit(
 ) -> Result<(Placed, Vec<Told>), LogFault>
     requires some { 1 ≤ block }
     requires fits { block ≤ log.old.block }
-    ensures { OnOk result (log.new.block ≡ log.old.block) }
+    ensures block { OnOk result (log.new.block ≡ log.old.block) }
+    ensures next { IfOk result (λ done. log.new.next ≡ done.0.next) }
+    ensures last { IfOk result (λ done. done.0.next.stripe ≤ last_stripe) }
 {
     let meta = ByteList::of(vec![in alloc; 7u8; meta as usize]?);
     let block = ByteList::of(vec![in alloc; 9u8; block as usize]?);
@@ -100,10 +103,10 @@ fn a_log_goes_on_over_stripes(rt: HostRuntime) -> Result<(), Fail> {
         ];
         assert_eq!(rt; told.as_slice(), parts.as_slice());
 
-        log.next_stripe(1);
+        log.next_stripe(second.next.stripe);
         let third = log.place(rt.alloc(), 10, &[1])?;
-        assert_eq!(rt; third.pieces.slice(), [piece(2, 0, 11)].as_slice());
-        assert_eq!(rt; third.ptrs.slice(), [ptr(2, 10, 1)].as_slice());
+        assert_eq!(rt; third.pieces.slice(), [piece(3, 0, 11)].as_slice());
+        assert_eq!(rt; third.ptrs.slice(), [ptr(3, 10, 1)].as_slice());
     }
     Ok(())
 }

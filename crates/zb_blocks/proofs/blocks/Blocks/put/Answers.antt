@@ -5,7 +5,7 @@ use Rattle.zb_plain.specs.Standing.{maps_of}
 use Rattle.zb_blocks.proofs.Standings.{extends_same}
 use Rattle.zb_blocks.proofs.Addresses.{going}
 use Rattle.zb_blocks.proofs.Keeping.{KeepsStripes}
-use Rattle.zb_blocks.proofs.Stores.{parts_fit, parts_differ, parts_begin, parts_last, put_sound, put_extends, blocks_at}
+use Rattle.zb_blocks.proofs.Stores.{parts_fit, parts_differ, parts_begin, put_sound, put_extends, blocks_at}
 use Rattle.zb_blocks.proofs.Failures.{left_sound, left_same}
 use Rattle.zb_blocks.proofs.blocks.Blocks.put.Goals as goal
 
@@ -26,8 +26,7 @@ commit-requires-clause-rise c =
     (going c.self.inside.log c.args.blocks.now c.in_ok-placed.placed c.in_ok-placed.flush c.in_ok-placed.ensures).rise
 
 pub leave-requires : goal.leave-requires
-leave-requires c =
-    parts_last _ c.self.invariant c.args.blocks.now c.in_ok-placed.placed c.in_ok-placed.flush c.in_ok-placed.ensures
+leave-requires c = c.in_ok-placed.ensures.each
 
 pub invariant_of-self : goal.invariant_of-self
 invariant_of-self c =

@@ -7,6 +7,7 @@ use Rattle.zb_log.specs.Placing.{AreBlocks, last_stripe}
 use Rattle.zb_log.specs.Logs.{SeenLog, IsSound, IsPlaced, laid_next}
 use Rattle.zb_log.proofs.Ends.{ends_below, ends_above}
 use Rattle.zb_log.proofs.Placings.{one_a_stripe, gives_pieces, blocks_lie, pieces_next, ptrs_lie}
+use Rattle.zb_log.proofs.Few.{lies_in_few}
 use Rattle.zb_log.proofs.log.LogBuf.place.Goals as goal
 
 not_worn : (r : Result Placed LogFault) → IsErrAnd r (λ fault. fault ≡ NoMemory) → IsErrOf r Worn → ⊥
@@ -49,6 +50,7 @@ returns c =
       exact = p;
       order = gives_pieces seen placed.next meta blocks placed.pieces s p.lens p.pieces p.next;
       one_a_stripe = one_a_stripe seen meta blocks placed.pieces s p.lens p.pieces;
+      few = lies_in_few seen meta blocks placed s p.lens p.pieces p.next;
       begin = pieces_next seen meta blocks placed.pieces s p.lens p.pieces;
       blocks = blocks_lie seen placed.next meta blocks placed.ptrs s p.lens p.ptrs p.next;
       ptrs = ptrs_lie seen meta blocks placed.pieces placed.ptrs s p.lens p.pieces p.ptrs;

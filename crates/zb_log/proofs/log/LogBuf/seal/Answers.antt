@@ -1,11 +1,11 @@
 use Rattle.std.proofs.Common.{◌≡◌, ◌++◌, List, sym, subst, arith}
 use Rattle.std.specs.Prelude.{All}
-use Rattle.std.specs.List.{concat}
+use Rattle.std.specs.List.{AllZip, concat}
 use Rattle.std.proofs.lemmas.Grind.{common_steps}
 use Rattle.std.proofs.lemmas.List.Elements.{All-from_recursion}
 use Rattle.zb_stripe.specs.declared.flush.Part.{Part}
 use Rattle.zb_stripe.specs.Writing.{StripesRise}
-use Rattle.zb_log.specs.Sealing.{read_at, parts_of, GoesNext, StandEach}
+use Rattle.zb_log.specs.Sealing.{read_at, parts_of, IsPartOf, GoesNext, StandEach}
 use Rattle.zb_log.specs.Logs.{IsSound, end_with, last_of}
 use Rattle.zb_log.proofs.Parting.{can_seal}
 use Rattle.zb_log.proofs.log.LogBuf.seal.Goals as goal
@@ -31,6 +31,14 @@ returns-clause-blocks c =
     let parts = parts_of seen.next.stripe seen.bytes c.args.placed.now.pieces (c.args.meta.now ++ concat c.args.blocks.now) in
     let same : c.of.result ≡ parts = grind (arith, common_steps) in
     subst (λ (z : List Part). StandEach z c.args.placed.now.ptrs c.args.blocks.now) (sym same) can.stand
+
+pub returns-clause-pieces : goal.returns-clause-pieces
+returns-clause-pieces c =
+    let seen = c.args.self.now in
+    let can = can_seal seen c.args.meta.now c.args.blocks.now c.args.placed.now (subst IsSound c.self.view_is c.self.invariant) c.requires in
+    let parts = parts_of seen.next.stripe seen.bytes c.args.placed.now.pieces (c.args.meta.now ++ concat c.args.blocks.now) in
+    let same : c.of.result ≡ parts = grind (arith, common_steps) in
+    subst (λ (z : List Part). AllZip IsPartOf c.args.placed.now.pieces z) (sym same) can.are
 
 pub returns-clause-next : goal.returns-clause-next
 returns-clause-next c =

@@ -1,17 +1,13 @@
 -- A store whose platter was looked at.
-use Rattle.std.proofs.Common.{◌≡◌, ◌≢◌, ℕ, List, Result, Ok, Err, OnOk, IfErr, Option, sym, ◌∙◌, ap, subst}
+use Rattle.std.proofs.Common.{◌≡◌, ◌≢◌, ℕ, List, Result, Ok, Err, OnOk, IfErr, sym, ◌∙◌, ap, subst}
 use Rattle.zb_outside.specs.Meaning.{Meaning}
 use Rattle.zb_outside.specs.Runs.{Run}
 use Rattle.zb_outside.proofs.Runs.{weaker_run, then_run}
-use Rattle.zb_cell.specs.Cell.{value}
 use Rattle.zb_types.specs.declared.ids.FragId.{FragId}
 use Rattle.zb_types.specs.declared.requests.Request.{Request}
 use Rattle.zb_types.specs.declared.requests.StoreFault.{StoreFault}
 use Rattle.zb_types.specs.declared.requests.StoreFault.TheVariants.{Stopped}
-use Rattle.zb_index.specs.Indexed.{IsIndexOf}
-use Rattle.zb_slots.specs.Slots.{slots_in}
 use Rattle.zb_slots.specs.Holding.{map_of}
-use Rattle.zb_slot_map.specs.Tidy.{IsTidy}
 use Rattle.zb_slots.specs.Reading.{LeftAlone}
 use Rattle.zb_fragstore.specs.Seen.{SeenStore}
 use Rattle.zb_holding.specs.Rules.{map_after}

@@ -1,5 +1,5 @@
 -- What opening a store does, and when it doesn't.
-use Rattle.std.specs.Prelude.{◌≡◌, ℕ, ◌+◌, ◌<◌, ◌^◌, Bool, true, false, List, length, None, Some, Result, Err}
+use Rattle.std.specs.Prelude.{◌≡◌, ℕ, ◌+◌, ◌<◌, ◌^◌, Bool, true, false, List, length, None, Result, Err}
 use Rattle.zb_outside.specs.Meaning.{Meaning}
 use Rattle.zb_cell.specs.Cell.{value}
 use Rattle.zb_types.specs.declared.geometry.Geometry.{Geometry}

@@ -17,3 +17,4 @@ pub mod Appended
 pub mod Taken
 pub mod Answered
 pub mod Outlined
+pub mod Beside

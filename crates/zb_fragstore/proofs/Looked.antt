@@ -1,33 +1,23 @@
 -- A store whose platter was looked at.
-use Rattle.std.proofs.Common.{◌≡◌, ◌≢◌, ℕ, List, Result, Ok, Err, OnOk, IfErr, Option, sym, ◌∙◌, ap, subst}
+use Rattle.std.proofs.Common.{◌≡◌, ◌≢◌, ℕ, List, Result, Ok, Err, OnOk, IfErr, sym, ◌∙◌, ap, subst}
 use Rattle.zb_outside.specs.Meaning.{Meaning}
 use Rattle.zb_outside.specs.Runs.{Run}
 use Rattle.zb_outside.proofs.Runs.{weaker_run, then_run}
-use Rattle.zb_cell.specs.Cell.{value}
 use Rattle.zb_types.specs.declared.ids.FragId.{FragId}
 use Rattle.zb_types.specs.declared.requests.Request.{Request}
 use Rattle.zb_types.specs.declared.requests.StoreFault.{StoreFault}
 use Rattle.zb_types.specs.declared.requests.StoreFault.TheVariants.{Stopped}
-use Rattle.zb_index.specs.Indexed.{IsIndexOf}
-use Rattle.zb_slots.specs.Slots.{slots_in}
 use Rattle.zb_slots.specs.Holding.{map_of}
-use Rattle.zb_slot_map.specs.Tidy.{IsTidy}
 use Rattle.zb_slots.specs.Reading.{LeftAlone}
 use Rattle.zb_fragstore.specs.Seen.{SeenStore}
 use Rattle.zb_holding.specs.Rules.{map_after}
 use Rattle.zb_fragstore.specs.Changing.{map_in, IsOpen, IsBetween, CarriesOut}
+use Rattle.zb_fragstore.proofs.Beside.{open_beside}
 use Rattle.zb_fragstore.proofs.Between.{still_between}
 
 module _ (store : SeenStore) (a b : Meaning) (alone : LeftAlone store.server.0 a b) (was : IsOpen store a.now) where
   pub still_open : IsOpen store b.now
-  still_open = record {
-    kept = record {
-      settled = record { only = λ other may. was.kept.settled.only other (alone.left other may) ∙ sym alone.seen };
-      tidy = subst (IsTidy store.geo) (sym alone.seen) was.kept.tidy;
-    };
-    super = ap (λ (image : List ℕ). value image 0) alone.seen ∙ was.super;
-    index = subst (λ (image : List ℕ). IsIndexOf store.index store.geo.slots (slots_in store.geo image)) (sym alone.seen) was.index;
-  }
+  still_open = open_beside store a.now b.now alone.seen alone.left was
 
   pub same_map : (id : FragId) → map_in store b.now id ≡ map_in store a.now id
   same_map id = ap (λ (image : List ℕ). map_of store.geo image id) alone.seen

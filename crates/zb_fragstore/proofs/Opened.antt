@@ -78,8 +78,8 @@ module _ (geo : Geometry) (server : ServerId) (fence p : ℕ) (a b : Meaning) (h
     built_here : IsBuilt geo (slots_in geo image) index older
     built_here = subst (λ (i : List ℕ). IsBuilt geo (slots_in geo i) index older) same_seen built
 
-    pub good_by : (store : SeenStore) → store.fence ≡ fence → IsGood geo server image store
-    good_by store is = record { fence = subst (λ (n : ℕ). HasFence geo server n image) (sym is) (super_found geo server.0 fence (value image 0) found); good = built_here.good }
+    pub good_by : (store : SeenStore) → store.fence ≡ fence → fence < 2 ^ 64 → IsGood geo server image store
+    good_by store is fits = record { fits = subst (λ (n : ℕ). n < 2 ^ 64) (sym is) fits; fence = subst (λ (n : ℕ). HasFence geo server n image) (sym is) (super_found geo server.0 fence (value image 0) found); good = built_here.good }
 
     -- and the older parities are freed
     module _ (c d : Meaning) (freed : List ℕ) (freed_is : freed ≡ older) (alone : LeftAlone p b c) (settled : IsSettled server.0 a.now) (large : IsLarge geo image) where

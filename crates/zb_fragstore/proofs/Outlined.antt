@@ -1,5 +1,5 @@
 -- What a store knows in memory is so on its platter.
-use Rattle.std.proofs.Common.{◌≡◌, ℕ, ◌-◌, Bool, true, false, if◌then◌else◌, nat_lt, is_some, List, length, Option, None, Some, refl, sym, ◌∙◌, ap}
+use Rattle.std.proofs.Common.{◌≡◌, ℕ, ◌-◌, Bool, true, false, if◌then◌else◌, nat_lt, is_some, List, Option, None, Some, refl, sym, ◌∙◌, ap}
 use Rattle.std.specs.Prelude.{option_map}
 use Rattle.zb_outside.specs.Meaning.{Standing}
 use Rattle.zb_types.specs.declared.ids.FragId.{FragId}
@@ -8,14 +8,14 @@ use Rattle.zb_types.specs.declared.requests.Request.TheVariants as ask
 use Rattle.zb_types.specs.declared.requests.StoreFault.{StoreFault}
 use Rattle.zb_types.specs.declared.requests.StoreFault.TheVariants.{NoFragment, OldGeneration}
 use Rattle.zb_holding.specs.Fragments.{Fragment}
-use Rattle.zb_holding.specs.Rules.{Size, share_size, parity_size, size_of, outline_of, unless_old, unless_there, known_refusal}
+use Rattle.zb_holding.specs.Rules.{share_size, parity_size, size_of, outline_of, unless_old, unless_there, known_refusal}
 use Rattle.zb_holding.proofs.Ruled.{same_refusal}
 use Rattle.zb_index.specs.declared.spot.Spot.{Spot}
 use Rattle.zb_index.specs.Seen.{spot_of}
 use Rattle.zb_fragstore.specs.Seen.{SeenStore, is_there, is_share, size_by, size_at, size_in, known, holding}
 use Rattle.zb_fragstore.specs.Changing.{IsOpen, map_in}
 use Rattle.zb_fragstore.proofs.Absent.{absent}
-use Rattle.zb_fragstore.proofs.Found.{ShareAt, ParityAt, share_at, parity_at}
+use Rattle.zb_fragstore.proofs.Found.{share_at, parity_at}
 
 some_map : {A B : Type 0} (f : A → B) (o : Option A) → is_some (option_map f o) ≡ is_some o
 some_map f None = refl

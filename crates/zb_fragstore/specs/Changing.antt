@@ -1,5 +1,5 @@
 -- A store that is open on its platter, and what calls do to the platter's map, moment by moment.
-use Rattle.std.specs.Prelude.{◌≡◌, ◌≢◌, ◌⊎◌, ℕ, List, length, Option, Some, Result, OnOk, IfErr}
+use Rattle.std.specs.Prelude.{◌≡◌, ◌≢◌, ◌⊎◌, ℕ, List, length, Option, Result, OnOk, IfErr}
 use Rattle.zb_outside.specs.Meaning.{Meaning, Standing}
 use Rattle.zb_outside.specs.Runs.{Run}
 use Rattle.zb_types.specs.declared.ids.FragId.{FragId}

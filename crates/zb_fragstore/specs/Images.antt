@@ -5,13 +5,17 @@ use Rattle.zb_types.specs.declared.geometry.Geometry.{Geometry}
 use Rattle.zb_types.specs.declared.ids.FragId.{FragId}
 use Rattle.zb_types.specs.declared.ids.ServerId.{ServerId}
 use Rattle.zb_holding.specs.Fragments.{Fragment}
-use Rattle.zb_slots.specs.Holding.{map_of, IsLarge}
+use Rattle.zb_slots.specs.Holding.{map_of, free_of, IsLarge}
 use Rattle.zb_slot_map.specs.Tidy.{IsSound}
 use Rattle.zb_slot_map.specs.Super.{super_text}
 
 -- what an image holds under each name
 abbrev pub map_on : Geometry → List ℕ → FragId → Option Fragment
 map_on geo image = map_of geo image
+
+-- how many slots of an image are free
+abbrev pub free_on : Geometry → List ℕ → ℕ
+free_on geo image = free_of geo image
 
 -- the image is long enough for all that a server keeps
 abbrev pub IsWhole : Geometry → List ℕ → Type 0

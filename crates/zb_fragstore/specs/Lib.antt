@@ -7,3 +7,4 @@ pub mod Ranges
 pub mod Opening
 pub mod Reading
 pub mod Taking
+pub mod Laws

@@ -1,5 +1,5 @@
 -- What opening a store does, and when it doesn't.
-use Rattle.std.specs.Prelude.{◌≡◌, ℕ, ◌+◌, ◌<◌, Bool, true, false, List, length, None, Some, Result, Err}
+use Rattle.std.specs.Prelude.{◌≡◌, ℕ, ◌+◌, ◌<◌, ◌^◌, Bool, true, false, List, length, None, Result, Err}
 use Rattle.zb_outside.specs.Meaning.{Meaning}
 use Rattle.zb_cell.specs.Cell.{value}
 use Rattle.zb_types.specs.declared.geometry.Geometry.{Geometry}
@@ -24,9 +24,10 @@ use Rattle.zb_fragstore.specs.Changing.{map_in, IsOpen}
 use Rattle.zb_fragstore.specs.declared.faults.OpenFault.{OpenFault}
 use Rattle.zb_fragstore.specs.declared.faults.OpenFault.TheVariants.{Blank, Damaged, NoMemory, Stopped}
 
--- the image is this server's, with the store's fence, and nothing on it is bad
+-- the image is this server's, with the store's fence, a number of eight bytes, and nothing on it is bad
 pub record IsGood (geo : Geometry) (server : ServerId) (image : List ℕ) (store : SeenStore) : Type 0 where
   pub fence : HasFence geo server store.fence image
+  pub fits : store.fence < 2 ^ 64
   pub good : NoneIsBad (slots_in geo image) geo.slots
 
 -- the image is this server's of this system

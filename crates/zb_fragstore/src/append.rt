@@ -109,6 +109,8 @@ impl FragStore {
         requires room { place + length bytes.now ≤ self.old.geo.fragment }
         ensures refused { (fault : StoreFault)
             → known_refusal (known self.old) generation (ask.Append id place bytes.now) ≡ Some fault → result ≡ Err fault }
+        ensures still { (fault : StoreFault)
+            → known_refusal (known self.old) generation (ask.Append id place bytes.now) ≡ Some fault → bay.new ≡ bay.old }
         ensures taken { known_refusal (known self.old) generation (ask.Append id place bytes.now) ≡ None
             → IfErr result (λ fault. (fault ≡ StoreFault.Stopped) ⊎ IsMisplaced (size_in self.old id) place fault) }
         ensures answer { IsTrue B.tells → IsOpen self.old (B.meaning bay.old).now

@@ -5,6 +5,7 @@
 mod append;
 mod change;
 mod faults;
+mod laws;
 mod open;
 mod parity;
 mod read;
@@ -12,4 +13,5 @@ mod slots;
 mod store;
 
 pub use faults::OpenFault;
+pub use laws::{a_fence_is_one, an_image_is_whole, an_own_image_opens, free_slots_are_known};
 pub use store::FragStore;

@@ -139,8 +139,8 @@ impl FragStore {
     /// Opens the store on the platter of a server. Of a parity that stands twice the newer counts, and the older is freed.
     ///
     /// `Blank` comes exactly where the super cell has no value or isn't this server's of this system, and else `Damaged`
-    /// exactly where a slot is bad, with the first such, and `NoMemory` never for a platter of another. After these faults
-    /// the platter is as it was.
+    /// only where a slot is bad, with the first such; where there is no room for the headers, `NoMemory` may come in its
+    /// place. `NoMemory` never comes for a platter of another. After these faults the platter is as it was.
     pub fn open<B: Bay>(
         alloc: Global,
         bay: &mut B,

@@ -48,6 +48,8 @@ impl FragStore {
         requires room { place + len ≤ self.old.geo.fragment }
         ensures refused { (fault : StoreFault)
             → known_refusal (known self.old) generation (ask.Retrieve id place len) ≡ Some fault → result ≡ Err fault }
+        ensures still { (fault : StoreFault)
+            → known_refusal (known self.old) generation (ask.Retrieve id place len) ≡ Some fault → bay.new ≡ bay.old }
         ensures taken { known_refusal (known self.old) generation (ask.Retrieve id place len) ≡ None → IfErr result IsUnforeseen }
         ensures form { IfOk result (IsRange (size_in self.old id) len) }
         ensures same { self.new ≡ self.old }

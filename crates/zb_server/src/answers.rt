@@ -1,7 +1,7 @@
-ghost use Rattle.std.specs.Prelude.{◌≡◌, true, false, IsTrue, IfOk, IfErr};
+ghost use Rattle.std.specs.Prelude.{◌≡◌, true, false, Some, Err, IsTrue, IfOk, IfErr};
 ghost use Rattle.zb_outside.specs.Counts.{Touches};
-ghost use Rattle.zb_holding.specs.Rules.{AreTold};
-ghost use Rattle.zb_fragstore.specs.Seen.{IsStoreOf, is_there};
+ghost use Rattle.zb_holding.specs.Rules.{AreTold, known_refusal};
+ghost use Rattle.zb_fragstore.specs.Seen.{IsStoreOf, is_there, known};
 ghost use Rattle.zb_fragstore.specs.Answers.{HasStopped, is_stopped};
 ghost use Rattle.zb_fragstore.specs.Changing.{IsOpen};
 ghost use Rattle.zb_server.specs.Asking.{FitsSystem, most_writes};
@@ -61,6 +61,8 @@ pub fn answer<B: Bay>(
     ensures told { IsTrue B.tells → IsOpen store.old (B.meaning bay.old).now
         → Answers store.old generation request.now store.new result (B.meaning bay.old) (B.meaning bay.new) }
     ensures system { IsStoreOf store.old.geo store.old.server store.new }
+    ensures refused { (fault : StoreFault) → known_refusal (known store.old) generation request.now ≡ Some fault
+        → (result ≡ Err fault) × (bay.new ≡ bay.old) × (store.new ≡ store.old) }
     ensures known { (HasStopped result → ⊥) → IsKnown store.old generation request.now store.new (said result) }
     ensures touches { Touches B.counts B.follows store.old.server.0 (most_writes request.now) (is_stopped result) bay.old bay.new }
 {

@@ -1,8 +1,10 @@
-ghost use Rattle.std.specs.Prelude.{◌≡◌, ◌⊎◌, ◌*◌, Bool, IsTrue, IfOk};
+ghost use Rattle.std.specs.Prelude.{◌≡◌, ◌⊎◌, ◌*◌, Bool, Some, IsTrue, IfOk};
 ghost use Rattle.zb_outside.specs.Counts.{Touches, GoesOn};
 ghost use Rattle.zb_types.specs.declared.geometry.Geometry.{Geometry as SeenGeometry};
 ghost use Rattle.zb_types.specs.declared.ids.ServerId.{ServerId as SeenServerId};
-ghost use Rattle.zb_fragstore.specs.Seen.{SeenStore, IsStoreOf};
+ghost use Rattle.zb_fragstore.specs.Seen.{SeenStore, IsStoreOf, known};
+ghost use Rattle.zb_holding.specs.Rules.{known_refusal};
+ghost use Rattle.zb_types.specs.declared.requests.StoreFault.{StoreFault};
 ghost use Rattle.zb_fragstore.specs.Changing.{IsOpen};
 ghost use Rattle.zb_fragstore.specs.Opening.{opening_stopped};
 ghost use Rattle.zb_server.specs.Asking.{most_writes};
@@ -71,6 +73,9 @@ impl Server {
         ensures told { (store : SeenStore) (mending : Bool) → self.old ≡ Server.Up store mending
             → IsTrue B.tells → IsOpen store (B.meaning bay.old).now
             → Serves store mending generation request.now self.new result (B.meaning bay.old) (B.meaning bay.new) }
+        ensures refused { (store : SeenStore) (mending : Bool) → self.old ≡ Server.Up store mending
+            → (fault : StoreFault) → known_refusal (known store) generation request.now ≡ Some fault
+            → (result ≡ Response.Refused fault) × (bay.new ≡ bay.old) × (self.new ≡ self.old) }
         ensures down { self.old ≡ Server.Down → result ≡ Response.Down }
         ensures blank { self.old ≡ Server.Blank → result ≡ Response.Blank }
         ensures same { IsAway self.old → self.new ≡ self.old }

@@ -33,7 +33,7 @@ returns-in_err-free_older-clause-told g c tells settled large =
 pub returns-clause-good : goal.returns-clause-good
 returns-clause-good g c tells =
     good_by c.args.geo.now c.args.server c.in_ok-fence.fence c.from-platter.result _ _ (c.fence_of.ensures.told tells) (c.in_ok-fence.ensures.found tells) c.from-platter.ensures
-    _ _ (c.in_ok-built.ensures.built tells) _ refl
+    _ _ (c.in_ok-built.ensures.built tells) _ refl c.in_ok-fence.ensures.fits
 
 pub returns-clause-told : goal.returns-clause-told
 returns-clause-told g c tells settled large =

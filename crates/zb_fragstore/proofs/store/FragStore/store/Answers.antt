@@ -1,5 +1,5 @@
 use Rattle.std.proofs.Common.{ap, sym, ◌∙◌, refl, is_some}
-use Rattle.zb_fragstore.specs.Seen.{SeenStore, is_there}
+use Rattle.zb_fragstore.specs.Seen.{SeenStore}
 use Rattle.zb_fragstore.proofs.Refused.{refused, refused_by}
 use Rattle.zb_fragstore.proofs.Taken.{if_ok, changes_length, takes_least}
 use Rattle.zb_fragstore.proofs.Told.{stored}

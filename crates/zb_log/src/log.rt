@@ -157,7 +157,8 @@ impl LogBuf {
         })
     }
 
-    /// Goes on behind a batch that was placed next and sealed: its addresses are given.
+    /// Goes on behind a batch that was placed next and sealed: its addresses are given. It is for a flush that reached
+    /// its end, since what is given can't be given back.
     pub fn go_on(&mut self, placed: &Placed, flush: Flush)
         requires { IsSealed self.old placed.now flush }
         ensures new { self.new ≡ gone_on self.old placed.now.next flush.parts }

@@ -97,7 +97,7 @@ impl FragStore {
     /// stand at that place already, nothing changes.
     ///
     /// It is refused, in this order, for a generation below the fence, for a name that isn't there, and for a place that
-    /// isn't the end of a share, which is told. It takes no memory.
+    /// isn't the end of a share, which is told. Only for the last of these is the platter looked at. It takes no memory.
     pub fn append<B: Bay>(
         &mut self,
         bay: &mut B,

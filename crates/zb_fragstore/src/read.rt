@@ -35,7 +35,7 @@ impl FragStore {
     /// another and zeros past its end.
     ///
     /// It is refused, in this order, for a generation below the fence, for a name that isn't there, and for a share that
-    /// ends before, whose length is told.
+    /// ends before, whose length is told. No call of the platter is made then.
     pub fn retrieve<B: Bay>(
         &mut self,
         alloc: Global,

@@ -1,5 +1,5 @@
 -- What a store answers, and what the answer says was done.
-use Rattle.std.proofs.Common.{◌≡◌, ◌≢◌, ◌⊎◌, inl, inr, ⊎_elim, ℕ, ◌+◌, ◌-◌, Bool, true, false, if◌then◌else◌, List, is_some, Result, Ok, Err, OnOk, IfErr, Option, None, Some, refl, sym, ◌∙◌, ap, arith}
+use Rattle.std.proofs.Common.{◌≡◌, ◌≢◌, ◌⊎◌, inl, inr, ⊎_elim, ℕ, ◌+◌, ◌-◌, Bool, true, false, if◌then◌else◌, List, is_some, Result, Ok, Err, OnOk, IfErr, Option, None, Some, sym, ◌∙◌, ap, arith}
 use Rattle.zb_outside.specs.Meaning.{Meaning, Standing}
 use Rattle.zb_types.specs.declared.geometry.Geometry.{Geometry}
 use Rattle.zb_types.specs.declared.ids.FragId.{FragId}
@@ -10,7 +10,7 @@ use Rattle.zb_types.specs.declared.requests.Response.TheVariants as told
 use Rattle.zb_types.specs.declared.requests.StoreFault.{StoreFault}
 use Rattle.zb_types.specs.declared.requests.StoreFault.TheVariants.{Stopped}
 use Rattle.zb_holding.specs.Fragments.{Fragment}
-use Rattle.zb_holding.specs.Rules.{Holdings, known_refusal, refusal_of, IsServed, HasForm, MayAnswer, FitsOutline, TakesMemory, LacksMemory, AreSame, has_after, fence_after, free_after}
+use Rattle.zb_holding.specs.Rules.{known_refusal, refusal_of, IsServed, MayAnswer, FitsOutline, TakesMemory, LacksMemory, fence_after, free_after}
 use Rattle.zb_fragstore.specs.Seen.{SeenStore, ChangesLength, IsStoreOf, known, holding, is_there, free_of}
 use Rattle.zb_fragstore.specs.Answers.{HasStopped, IsUnforeseen, is_stopped}
 use Rattle.zb_fragstore.specs.Images.{map_on}

@@ -1,5 +1,5 @@
 -- What a store answers that only looks at its platter.
-use Rattle.std.proofs.Common.{◌≡◌, ◌⊎◌, inl, inr, ⊎_elim, ℕ, ◌+◌, nat_le, Bool, true, false, if◌then◌else◌, List, length, take, drop, is_some, Result, Ok, Err, IfOk, IfErr, Option, None, Some, refl, sym, ◌∙◌, ap, subst}
+use Rattle.std.proofs.Common.{◌≡◌, ◌⊎◌, inl, inr, ⊎_elim, ℕ, ◌+◌, nat_le, Bool, true, false, if◌then◌else◌, length, take, drop, is_some, Result, Ok, Err, IfOk, IfErr, Option, None, Some, refl, sym, ◌∙◌, ap, subst}
 use Rattle.zb_outside.specs.Meaning.{Meaning}
 use Rattle.zb_outside.proofs.Runs.{weaker_run, started}
 use Rattle.zb_types.specs.declared.ids.FragId.{FragId}
@@ -11,7 +11,7 @@ use Rattle.zb_types.specs.declared.requests.StoreFault.{StoreFault}
 use Rattle.zb_types.specs.declared.requests.StoreFault.TheVariants.{NoMemory, Short}
 use Rattle.zb_holding.specs.Fragments.{Fragment, share_fragment, parity_fragment}
 use Rattle.zb_holding.specs.Carrying.{found}
-use Rattle.zb_holding.specs.Rules.{Holdings, Size, share_size, parity_size, known_refusal, AreTold, IsRange, IsServed, HasForm, MayAnswer, FitsOutline, LacksMemory, AreSame, is_done, has_after, fence_after, free_after}
+use Rattle.zb_holding.specs.Rules.{Holdings, Size, share_size, parity_size, known_refusal, AreTold, IsRange, MayAnswer, FitsOutline, LacksMemory, AreSame, is_done, has_after, fence_after, free_after}
 use Rattle.zb_holding.proofs.Ruled.{told_of_same}
 use Rattle.zb_fragstore.specs.Reading.{IsLookedAt}
 use Rattle.zb_fragstore.specs.Seen.{SeenStore, known, holding, is_there, size_in, free_of}

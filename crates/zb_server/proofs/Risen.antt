@@ -1,5 +1,5 @@
 -- A platter that came back, and the store that was opened on it.
-use Rattle.std.proofs.Common.{◌≡◌, ◌≢◌, ◌⊎◌, inl, inr, Result, Ok, Err, IfOk, IfErr, refl, ◌∙◌, ap}
+use Rattle.std.proofs.Common.{◌≢◌, ◌⊎◌, inl, inr, Result, Ok, Err, IfOk, IfErr, refl, ◌∙◌, ap}
 use Rattle.zb_outside.specs.Meaning.{Meaning}
 use Rattle.zb_outside.specs.Runs.{Run, IsSettled}
 use Rattle.zb_outside.specs.Platters.{RestartTold}

@@ -1,5 +1,5 @@
 -- What a store does with a request, moment by moment.
-use Rattle.std.specs.Prelude.{◌≡◌, ℕ, List, if◌then◌else◌, Result, Ok, Err}
+use Rattle.std.specs.Prelude.{◌≡◌, ℕ, if◌then◌else◌, Result, Ok, Err}
 use Rattle.zb_outside.specs.Meaning.{Meaning}
 use Rattle.zb_outside.specs.Runs.{Run}
 use Rattle.zb_types.specs.declared.requests.Request.{Request}

@@ -57,6 +57,8 @@ impl Server {
     /// Answers a request that is made in this generation: `Down` or `Blank` exactly where the node is so, and else what
     /// its store answers. A store whose platter stopped makes the node down, and the answer is `Down` then.
     ///
+    /// What the store refuses by what it has in memory makes no call of the platter, and leaves the node as it was.
+    ///
     /// What a node that is up is asked fits its system: a share goes to an index below the last and a parity to the last,
     /// and all bytes lie within a fragment.
     pub fn serve<B: Bay>(

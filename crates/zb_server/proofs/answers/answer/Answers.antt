@@ -1,14 +1,12 @@
-use Rattle.std.proofs.Common.{refl, ap, sym, ◌∙◌}
+use Rattle.std.proofs.Common.{refl, ap}
 use Rattle.zb_types.specs.declared.requests.Request.TheVariants as ask
-use Rattle.zb_types.specs.declared.requests.Response.{Response}
-use Rattle.zb_types.specs.declared.requests.Response.TheVariants as told
-use Rattle.zb_holding.specs.Rules.{IsServed, HasForm}
-use Rattle.zb_fragstore.specs.Seen.{known, holding}
+use Rattle.zb_holding.specs.Rules.{IsServed}
+use Rattle.zb_fragstore.specs.Seen.{holding}
 use Rattle.zb_fragstore.specs.Changing.{map_in}
 use Rattle.zb_fragstore.proofs.Outlined.{refusal_is}
-use Rattle.zb_server.proofs.Answered.{Said, carried, known_of, may_answer, served_by, done_by, fence_kept, fence_grown, fence_raised, free_raised, free_less, free_parity, runs_too}
-use Rattle.zb_server.proofs.Behind.{answers_append, append_known}
-use Rattle.zb_server.proofs.Looking.{retrieved, retrieved_known, named, named_known}
+use Rattle.zb_server.proofs.Answered.{Said, carried, may_answer, served_by, done_by, fence_kept, fence_grown, fence_raised, free_raised, free_less, free_parity}
+use Rattle.zb_server.proofs.Behind.{answers_append}
+use Rattle.zb_server.proofs.Looking.{retrieved, named, named_known}
 use Rattle.zb_server.proofs.answers.answer.Goals as goal
 
 pub returns-in-Store-clause-told : goal.returns-in-Store-clause-told

@@ -107,13 +107,19 @@ module _ (store : SeenStore) (a : Meaning) (id : FragId) (spot : Spot) (place : 
         same_fault f g e = cc e
 
   -- they go to the end of a share
+  none_refuses : is_share store id ≡ true → place ≡ spot.len → (fragment : Fragment) → map_in store a.now id ≡ Some fragment → refusal_to_append fragment place bytes ≡ None
+  none_refuses share end fragment holds =
+      let h : ShareAt store.geo image id spot = share_at store a.now id spot is_open at share in
+      ap (λ (f : Fragment). refusal_to_append f place bytes) (same_fragment fragment (share_fragment h.stands) (sym holds ∙ h.map)) ∙ go_to_end h.stands place bytes (end ∙ sym h.len)
+
   pub answer_put : (result : Result (Unit {0}) StoreFault) → is_share store id ≡ true → place ≡ spot.len → IfErr result (λ fault. fault ≡ Stopped)
       → (fragment : Fragment) → map_in store a.now id ≡ Some fragment → IsAnswered (refusal_to_append fragment place bytes) result
   answer_put result share end stops fragment holds =
-      let h : ShareAt store.geo image id spot = share_at store a.now id spot is_open at share in
-      let none : refusal_to_append fragment place bytes ≡ None =
-      ap (λ (f : Fragment). refusal_to_append f place bytes) (same_fragment fragment (share_fragment h.stands) (sym holds ∙ h.map)) ∙ go_to_end h.stands place bytes (end ∙ sym h.len) in
-      record { done = λ _. stops; refused = λ fault some _. absurd (cc (sym none ∙ some)) }
+      record { done = λ _. stops; refused = λ fault some _. absurd (cc (sym (none_refuses share end fragment holds) ∙ some)) }
+
+  -- and so aren't refused
+  pub put_fits : (P : Type 0) → is_share store id ≡ true → place ≡ spot.len → (fragment : Fragment) → map_in store a.now id ≡ Some fragment → (fault : StoreFault) → refusal_to_append fragment place bytes ≡ Some fault → P
+  put_fits P share end fragment holds fault some = absurd (cc (sym (none_refuses share end fragment holds) ∙ some))
 
   pub put_told : (new : SeenStore) (result : Result (Unit {0}) StoreFault) (b c : Meaning) → place ≡ spot.len → LeftAlone store.server.0 a b
       → (IsOpen store b.now → CarriesOut (ask.Append id spot.len bytes) store new result b c) → CarriesOut (ask.Append id place bytes) store new result a c

@@ -11,6 +11,7 @@ ghost use Rattle.zb_fragstore.specs.Answers.{is_stopped};
 ghost use Rattle.zb_fragstore.specs.Changing.{map_in, IsOpen, CarriesOut};
 ghost use Rattle.zb_holding.specs.Rules.{refusal_to_append};
 ghost use Rattle.zb_fragstore.specs.Appending.{IsAnswered, HasGrown};
+ghost use Rattle.zb_fragstore.specs.Reading.{IsLookedAt};
 
 use crate::faults::or_stopped;
 use crate::store::FragStore;
@@ -67,6 +68,10 @@ impl FragStore {
         ensures answer { IsTrue B.tells → IsOpen self.old (B.meaning bay.old).now
             → (fragment : Fragment) → map_in self.old (B.meaning bay.old).now id ≡ Some fragment
             → IsAnswered (refusal_to_append fragment place bytes.now) result }
+        ensures looked { IsTrue B.tells → IsOpen self.old (B.meaning bay.old).now
+            → (fragment : Fragment) → map_in self.old (B.meaning bay.old).now id ≡ Some fragment
+            → (fault : StoreFault) → refusal_to_append fragment place bytes.now ≡ Some fault
+            → IsLookedAt self.old.server.0 (B.meaning bay.old) (B.meaning bay.new) }
         ensures same { IfErr result (λ fault. fault ≢ StoreFault.Stopped → self.new ≡ self.old) }
         ensures grown { OnOk result (HasGrown id place (length bytes.now) self.old self.new) }
         ensures free { OnOk result (free_of self.new ≡ free_of self.old) }
@@ -117,6 +122,11 @@ impl FragStore {
             → known_refusal (known self.old) generation (ask.Append id place bytes.now) ≡ None
             → (fragment : Fragment) → map_in self.old (B.meaning bay.old).now id ≡ Some fragment
             → IsAnswered (refusal_to_append fragment place bytes.now) result }
+        ensures looked { IsTrue B.tells → IsOpen self.old (B.meaning bay.old).now
+            → known_refusal (known self.old) generation (ask.Append id place bytes.now) ≡ None
+            → (fragment : Fragment) → map_in self.old (B.meaning bay.old).now id ≡ Some fragment
+            → (fault : StoreFault) → refusal_to_append fragment place bytes.now ≡ Some fault
+            → IsLookedAt self.old.server.0 (B.meaning bay.old) (B.meaning bay.new) }
         ensures same { IfErr result (λ fault. fault ≢ StoreFault.Stopped → self.new ≡ self.old) }
         ensures grown { OnOk result (HasGrown id place (length bytes.now) self.old self.new) }
         ensures free { OnOk result (free_of self.new ≡ free_of self.old) }

@@ -1,5 +1,6 @@
 pub mod Answered
 pub mod Behind
 pub mod Looking
+pub mod Refused
 pub mod Risen
 pub mod Served

@@ -1,14 +1,16 @@
 -- What a node does whose store has answered.
-use Rattle.std.proofs.Common.{◌≡◌, ◌⊎◌, inr, ℕ, Bool, false, Result, sym, ◌∙◌, ap, subst}
+use Rattle.std.proofs.Common.{◌≡◌, ◌⊎◌, inr, ℕ, Bool, false, Result, Some, sym, ◌∙◌, ap, subst}
 use Rattle.zb_outside.specs.Meaning.{Meaning}
 use Rattle.zb_types.specs.declared.geometry.Geometry.{Geometry}
 use Rattle.zb_types.specs.declared.ids.ServerId.{ServerId}
 use Rattle.zb_types.specs.declared.requests.Request.{Request}
 use Rattle.zb_types.specs.declared.requests.Response.{Response}
 use Rattle.zb_types.specs.declared.requests.StoreFault.{StoreFault}
-use Rattle.zb_fragstore.specs.Seen.{SeenStore}
+use Rattle.zb_holding.specs.Rules.{refusal_of}
+use Rattle.zb_fragstore.specs.Seen.{SeenStore, holding}
 use Rattle.zb_fragstore.specs.Answers.{HasStopped}
-use Rattle.zb_fragstore.specs.Changing.{IsOpen}
+use Rattle.zb_fragstore.specs.Changing.{map_in, IsOpen}
+use Rattle.zb_fragstore.specs.Reading.{IsLookedAt}
 use Rattle.zb_server.specs.Answering.{said, HasAnswered, Answers}
 use Rattle.zb_server.specs.Asking.{FitsSystem}
 use Rattle.zb_server.specs.Serving.{MayServe, IsNodeOf, StaysUp, Serves, WentDown}
@@ -53,3 +55,10 @@ module _ (s store : SeenStore) (m mending : Bool) (old : Server) (is : old ≡ U
         answered = λ next e. subst (λ (x : SeenStore). HasAnswered s generation request x response a b) (ap (store_or now) e)
             (subst (λ (x : Response). HasAnswered s generation request now x a b) (sym says) (h.answered runs));
       })
+
+  -- and so is what it looked at
+  abbrev Looks : (generation : ℕ) → Request → Meaning → Meaning → SeenStore → Type 0
+  Looks generation request a b x = IsOpen x a.now → (fault : StoreFault) → refusal_of (holding x (map_in x a.now)) generation request ≡ Some fault → IsLookedAt x.server.0 a b
+
+  pub looked : (generation : ℕ) (request : Request) (a b : Meaning) → Looks generation request a b s → Looks generation request a b store
+  looked generation request a b h = subst (Looks generation request a b) same_store h

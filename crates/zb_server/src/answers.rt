@@ -1,9 +1,10 @@
 ghost use Rattle.std.specs.Prelude.{◌≡◌, true, false, Some, Err, IsTrue, IfOk, IfErr};
 ghost use Rattle.zb_outside.specs.Counts.{Touches};
-ghost use Rattle.zb_holding.specs.Rules.{AreTold, known_refusal};
-ghost use Rattle.zb_fragstore.specs.Seen.{IsStoreOf, is_there, known};
+ghost use Rattle.zb_holding.specs.Rules.{AreTold, known_refusal, refusal_of};
+ghost use Rattle.zb_fragstore.specs.Seen.{IsStoreOf, is_there, known, holding};
 ghost use Rattle.zb_fragstore.specs.Answers.{HasStopped, is_stopped};
-ghost use Rattle.zb_fragstore.specs.Changing.{IsOpen};
+ghost use Rattle.zb_fragstore.specs.Changing.{map_in, IsOpen};
+ghost use Rattle.zb_fragstore.specs.Reading.{IsLookedAt};
 ghost use Rattle.zb_server.specs.Asking.{FitsSystem, most_writes};
 ghost use Rattle.zb_server.specs.Answering.{done, said, IsKnown, Answers};
 
@@ -60,6 +61,9 @@ pub fn answer<B: Bay>(
     requires { FitsSystem store.old.geo request.now }
     ensures told { IsTrue B.tells → IsOpen store.old (B.meaning bay.old).now
         → Answers store.old generation request.now store.new result (B.meaning bay.old) (B.meaning bay.new) }
+    ensures looked { IsTrue B.tells → IsOpen store.old (B.meaning bay.old).now → (fault : StoreFault)
+        → refusal_of (holding store.old (map_in store.old (B.meaning bay.old).now)) generation request.now ≡ Some fault
+        → IsLookedAt store.old.server.0 (B.meaning bay.old) (B.meaning bay.new) }
     ensures system { IsStoreOf store.old.geo store.old.server store.new }
     ensures refused { (fault : StoreFault) → known_refusal (known store.old) generation request.now ≡ Some fault
         → (result ≡ Err fault) × (bay.new ≡ bay.old) × (store.new ≡ store.old) }

@@ -2,10 +2,11 @@ ghost use Rattle.std.specs.Prelude.{◌≡◌, ◌⊎◌, ◌*◌, Bool, Some, I
 ghost use Rattle.zb_outside.specs.Counts.{Touches, GoesOn};
 ghost use Rattle.zb_types.specs.declared.geometry.Geometry.{Geometry as SeenGeometry};
 ghost use Rattle.zb_types.specs.declared.ids.ServerId.{ServerId as SeenServerId};
-ghost use Rattle.zb_fragstore.specs.Seen.{SeenStore, IsStoreOf, known};
-ghost use Rattle.zb_holding.specs.Rules.{known_refusal};
+ghost use Rattle.zb_fragstore.specs.Seen.{SeenStore, IsStoreOf, known, holding};
+ghost use Rattle.zb_holding.specs.Rules.{known_refusal, refusal_of};
 ghost use Rattle.zb_types.specs.declared.requests.StoreFault.{StoreFault};
-ghost use Rattle.zb_fragstore.specs.Changing.{IsOpen};
+ghost use Rattle.zb_fragstore.specs.Changing.{map_in, IsOpen};
+ghost use Rattle.zb_fragstore.specs.Reading.{IsLookedAt};
 ghost use Rattle.zb_fragstore.specs.Opening.{opening_stopped};
 ghost use Rattle.zb_server.specs.Asking.{most_writes};
 ghost use Rattle.zb_server.specs.Answering.{IsKnown};
@@ -57,7 +58,8 @@ impl Server {
     /// Answers a request that is made in this generation: `Down` or `Blank` exactly where the node is so, and else what
     /// its store answers. A store whose platter stopped makes the node down, and the answer is `Down` then.
     ///
-    /// What the store refuses by what it has in memory makes no call of the platter, and leaves the node as it was.
+    /// What the store refuses by what it has in memory makes no call of the platter, and leaves the node as it was. What
+    /// it refuses by what stands on the platter only looks at it, also where the platter stops.
     ///
     /// What a node that is up is asked fits its system: a share goes to an index below the last and a parity to the last,
     /// and all bytes lie within a fragment.
@@ -78,6 +80,10 @@ impl Server {
         ensures refused { (store : SeenStore) (mending : Bool) → self.old ≡ Server.Up store mending
             → (fault : StoreFault) → known_refusal (known store) generation request.now ≡ Some fault
             → (result ≡ Response.Refused fault) × (bay.new ≡ bay.old) × (self.new ≡ self.old) }
+        ensures looked { (store : SeenStore) (mending : Bool) → self.old ≡ Server.Up store mending
+            → IsTrue B.tells → IsOpen store (B.meaning bay.old).now → (fault : StoreFault)
+            → refusal_of (holding store (map_in store (B.meaning bay.old).now)) generation request.now ≡ Some fault
+            → IsLookedAt store.server.0 (B.meaning bay.old) (B.meaning bay.new) }
         ensures down { self.old ≡ Server.Down → result ≡ Response.Down }
         ensures blank { self.old ≡ Server.Blank → result ≡ Response.Blank }
         ensures same { IsAway self.old → self.new ≡ self.old }

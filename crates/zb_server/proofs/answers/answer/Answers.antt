@@ -7,6 +7,7 @@ use Rattle.zb_fragstore.proofs.Outlined.{refusal_is}
 use Rattle.zb_server.proofs.Answered.{Said, carried, may_answer, served_by, done_by, fence_kept, fence_grown, fence_raised, free_raised, free_less, free_parity}
 use Rattle.zb_server.proofs.Behind.{answers_append}
 use Rattle.zb_server.proofs.Looking.{retrieved, named, named_known}
+use Rattle.zb_server.proofs.Refused.{not_called, refused_look, append_look}
 use Rattle.zb_server.proofs.answers.answer.Goals as goal
 
 pub returns-in-Store-clause-told : goal.returns-in-Store-clause-told
@@ -80,3 +81,30 @@ returns-in-Fence-clause-told g c tells is_open =
     (fence_raised c.in-Fence.generation old c.fence.new.self r c.fence.ensures.raised, (free_raised c.in-Fence.generation old c.fence.new.self r c.fence.ensures.raised, c.fence.ensures.same))
     (λ runs. may_answer request c.args.generation old map (Said r) (refusal_is old _ is_open c.args.generation request) (λ fault e. ap Said (c.fence.ensures.refused fault e))
     (λ none. done_by request (IsServed (holding old map) request) r refl (c.fence.ensures.taken none) runs)))
+
+pub returns-in-Store-clause-looked : goal.returns-in-Store-clause-looked
+returns-in-Store-clause-looked g c tells is_open =
+    rw c.in-Store.is (refused_look _ g.B.Bay.meaning c.args.bay.now _ (ask.Store c.in-Store.id c.slice.result.now c.in-Store.class) c.args.generation c.args.store.now is_open _ c.store.ensures.refused c.store.ensures.still)
+
+pub returns-in-Append-clause-looked : goal.returns-in-Append-clause-looked
+returns-in-Append-clause-looked g c tells is_open =
+    rw (c.in-Append.is, ← c.slice-in-Append.ensures) (append_look _ g.B.Bay.meaning c.args.bay.now _ c.in-Append.id c.in-Append.place c.slice-in-Append.result.now c.args.generation c.args.store.now is_open c.append.ensures.still (c.append.ensures.looked tells is_open))
+
+pub returns-in-Parity-clause-looked : goal.returns-in-Parity-clause-looked
+returns-in-Parity-clause-looked g c tells is_open =
+    rw c.in-Parity.is
+    (refused_look _ g.B.Bay.meaning c.args.bay.now _ (ask.Parity c.in-Parity.id c.slice-lengths.result.now c.slice-bytes.result.now c.in-Parity.class) c.args.generation c.args.store.now is_open _ c.replace_parity.ensures.refused c.replace_parity.ensures.still)
+
+pub returns-in-Retrieve-clause-looked : goal.returns-in-Retrieve-clause-looked
+returns-in-Retrieve-clause-looked g c tells is_open fault some = c.retrieve.ensures.told tells
+
+pub returns-in-Delete-clause-looked : goal.returns-in-Delete-clause-looked
+returns-in-Delete-clause-looked g c tells is_open =
+    rw c.in-Delete.is (refused_look _ g.B.Bay.meaning c.args.bay.now _ (ask.Delete c.in-Delete.id) c.args.generation c.args.store.now is_open _ c.delete.ensures.refused c.delete.ensures.still)
+
+pub returns-in-Identify-clause-looked : goal.returns-in-Identify-clause-looked
+returns-in-Identify-clause-looked g c tells is_open fault some = not_called c.args.store.now.server.0 (g.B.Bay.meaning c.args.bay.now)
+
+pub returns-in-Fence-clause-looked : goal.returns-in-Fence-clause-looked
+returns-in-Fence-clause-looked g c tells is_open =
+    rw c.in-Fence.is (refused_look _ g.B.Bay.meaning c.args.bay.now _ (ask.Fence c.in-Fence.generation) c.args.generation c.args.store.now is_open _ c.fence.ensures.refused c.fence.ensures.still)

@@ -6,3 +6,6 @@ returns-in_err-check_generation-clause-told g c tells is_open = refused_by _ _ _
 
 pub returns-in_default-clause-told : goal.returns-in_default-clause-told
 returns-in_default-clause-told g c tells is_open = refused _ _ _ _ is_open
+
+pub returns-clause-looked : goal.returns-clause-looked
+returns-clause-looked g c tells is_open none fragment holds fault some = c.append_at_spot.ensures.looked tells is_open fragment holds fault some

@@ -1,7 +1,7 @@
 use Rattle.std.proofs.Common.{ap, sym, ◌∙◌}
 use Rattle.zb_fragstore.specs.Seen.{SeenStore}
 use Rattle.zb_fragstore.proofs.store.FragStore.append_at_spot.Goals.{then-place-spot-via-then-place-spot, then-place-spot-via-else-place-spot+then-not-is_share}
-use Rattle.zb_fragstore.proofs.Answered.{looked_ok, StandsClause, stands_is, answer_kept, kept_told, answer_misplaced, answer_put, put_told, stopped_told}
+use Rattle.zb_fragstore.proofs.Answered.{looked_ok, StandsClause, stands_is, answer_kept, kept_told, answer_misplaced, answer_put, put_fits, put_told, stopped_told}
 use Rattle.zb_fragstore.proofs.Looked.{then_refused}
 use Rattle.zb_fragstore.proofs.store.FragStore.append_at_spot.Goals as goal
 
@@ -40,3 +40,16 @@ returns-clause-answer g c tells is_open = answer_put _ (g.B.Bay.meaning c.args.b
 pub returns-clause-told : goal.returns-clause-told
 returns-clause-told g c tells is_open =
     put_told _ (g.B.Bay.meaning c.args.bay.now) _ _ _ _ is_open c.requires.there _ _ _ _ c.if-place-spot.false (rw c.platter.ensures at (c.stands_at-stands.ensures.told tells)) (c.put_behind.ensures.told tells)
+
+pub returns-in_err-or_stopped-clause-looked : goal.returns-in_err-or_stopped-clause-looked
+returns-in_err-or_stopped-clause-looked g c tells is_open fragment holds fault some = rw c.platter.ensures at (c.stands_at-stands.ensures.told tells)
+
+pub returns-then-branch-clause-looked : goal.returns-then-branch-clause-looked
+returns-then-branch-clause-looked g c tells is_open fragment holds fault some = rw c.platter.ensures at (c.stands_at-stands.ensures.told tells)
+
+pub returns-then-place-spot-clause-looked : goal.returns-then-place-spot-clause-looked
+returns-then-place-spot-clause-looked g c tells is_open fragment holds fault some = rw c.platter.ensures at (c.stands_at-stands.ensures.told tells)
+
+pub returns-clause-looked : goal.returns-clause-looked
+returns-clause-looked g c tells is_open fragment holds fault some =
+    absurd (put_fits _ (g.B.Bay.meaning c.args.bay.now) _ _ _ _ is_open c.requires.there ⊥ (sym c.is_share.ensures ∙ c.if-not-is_share.false) c.if-place-spot.false fragment holds fault some)

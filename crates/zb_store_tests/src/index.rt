@@ -3,7 +3,7 @@ use std::alloc::Global;
 use std::test::Fail;
 use zb_index::{Index, IndexFault, Renewed, Spot};
 use zb_slots::Header;
-use zb_types::{FragId, LogId};
+use zb_types::{FragId, LogId, Mem};
 
 const LATER: FragId = FragId {
     log: LogId(1),
@@ -69,25 +69,33 @@ fn an_index_is_built_or_names_the_first_bad_slot(rt: HostRuntime) {
     }
 }
 
-#[test]
-fn a_fragment_is_added_grown_and_removed(rt: HostRuntime) -> Result<(), Fail> {
-    let mut index = Index::empty(rt.alloc(), 2)?;
-    assert_eq!(rt; index.free(), 2);
+/// Adds a fragment where it isn't held, and grows it. Tells its slot.
+fn add_and_grow(index: &mut Index) -> Mem<Option<u32>> {
+    let mut slot = None;
     if index.find(SHARE).is_none() {
-        assert_eq!(rt; index.add(SHARE, 5)?, Some(0));
+        slot = index.add(SHARE, 5)?;
     }
     if index.find(SHARE).is_some() {
         index.grow(SHARE, 8);
     }
-    let wanted = Spot {
+    Ok(slot)
+}
+
+#[test]
+fn a_fragment_is_added_grown_and_removed(rt: HostRuntime) -> Result<(), Fail> {
+    let mut index = Index::empty(rt.alloc(), 2)?;
+    assert_eq!(rt; index.free(), 2);
+    assert_eq!(rt; add_and_grow(&mut index)?, Some(0));
+    let spot = Spot {
         slot: 0,
         turn: 0,
         len: 8,
     };
-    assert_eq!(rt; index.find(SHARE), Some(wanted));
-    assert_eq!(rt; index.remove(SHARE), Some(wanted));
-    assert_eq!(rt; index.remove(SHARE), None);
-    assert_eq!(rt; index.free(), 2);
+    for wanted in [Some(spot), None] {
+        assert_eq!(rt; index.find(SHARE), wanted);
+        assert_eq!(rt; index.remove(SHARE), wanted);
+        assert_eq!(rt; index.free(), 2);
+    }
     Ok(())
 }
 
@@ -115,18 +123,28 @@ fn a_parity_is_renewed_in_the_least_free_slot(rt: HostRuntime) -> Result<(), Fai
     Ok(())
 }
 
-#[test]
-fn names_are_listed_above_another(rt: HostRuntime) -> Result<(), Fail> {
-    let mut index = Index::empty(rt.alloc(), 3)?;
+/// An index of three slots with three names.
+fn named(alloc: Global) -> Result<Index, Fail> {
+    let mut index = Index::empty(alloc, 3)?;
     for id in [LATER, PARITY, SHARE] {
         if index.find(id).is_none() {
-            assert!(rt; index.add(id, 1)?.is_some());
+            index.add(id, 1)?;
         }
     }
-    let all = index.names_above(rt.alloc(), None)?;
-    assert_eq!(rt; all.slice(), [SHARE, PARITY, LATER].as_slice());
-    let above = index.names_above(rt.alloc(), Some(SHARE))?;
-    assert_eq!(rt; above.slice(), [PARITY, LATER].as_slice());
+    Ok(index)
+}
+
+fn has_names(index: &Index, alloc: Global, after: Option<FragId>, wanted: &[FragId]) -> Mem<bool> {
+    let names = index.names_above(alloc, after)?;
+    Ok(names.slice() == wanted)
+}
+
+#[test]
+fn names_are_listed_above_another(rt: HostRuntime) -> Result<(), Fail> {
+    let mut index = named(rt.alloc())?;
+    let names = [SHARE, PARITY, LATER];
+    assert!(rt; has_names(&index, rt.alloc(), None, &names)?);
+    assert!(rt; has_names(&index, rt.alloc(), Some(SHARE), &names[1..])?);
     if index.find(LATER).is_some() {
         assert!(rt; index.renew(LATER, 1).is_none());
     }

@@ -1,24 +1,67 @@
+ghost use Rattle.std.specs.Prelude.{◌≡◌, ◌≤◌, length};
+
 use crate::system::{PARITY, SHARE, formatted, system};
 use std::test::Fail;
 use zb_cell::get;
+use zb_devices::MemOutside;
 use zb_slot_map::{
     ParitySlot, append_at, fence_at, find_fence, free_at, free_older, replace_parity_at, store_at,
     store_parity_at,
 };
-use zb_slots::{Header, header_at, parity_area, place_of, store_parity};
-use zb_types::ServerId;
+use zb_slots::{Header, header_at, parity_area, store_parity};
+use zb_types::{Failed, Geometry, ServerId};
 
-#[test]
-fn a_share_goes_through_its_slot(rt: HostRuntime) -> Result<(), Fail> {
-    let geo = system()?;
-    let mut bay = formatted(rt.alloc())?;
-    store_at(&mut bay, &geo, 3, 1, SHARE, b"abc")?;
-    append_at(&mut bay, &geo, 3, 1, SHARE, 3, b"de")?;
-    let says = header_at(&mut bay, &geo, 3, 576)?;
-    assert_eq!(rt; says, Some(Header::Share { id: SHARE, len: 5 }));
-    free_at(&mut bay, &geo, 3, 1)?;
-    assert_eq!(rt; header_at(&mut bay, &geo, 3, 576)?, Some(Header::Free));
-    Ok(())
+// A call on the map: of slot 1 for a share, of slots 0 and 1 for a parity that is replaced, and of slots 5 and 1 for one that
+// stands twice.
+#[derive(Clone, Copy, Debug)]
+enum Call {
+    Store,
+    Append,
+    Free,
+    Parity,
+    Replace,
+    Newer,
+    Older,
+    FreeOlder,
+}
+
+fn make(bay: &mut MemOutside, geo: &Geometry, area: &[u8], call: Call) -> Result<(), Failed>
+    requires servers { geo.now.servers ≡ 3 }
+    requires fragment { geo.now.fragment ≡ 256 }
+    requires slots { geo.now.slots ≡ 8 }
+    requires lengths { 64 ≤ length area.now }
+    requires room { length area.now ≤ 320 }
+{
+    match call {
+        Call::Store => store_at(bay, geo, 3, 1, SHARE, b"abc"),
+        Call::Append => append_at(bay, geo, 3, 1, SHARE, 3, b"de"),
+        Call::Free => free_at(bay, geo, 3, 1),
+        Call::Parity => store_parity_at(bay, geo, 3, 0, PARITY, area),
+        Call::Replace => {
+            let former = ParitySlot { slot: 0, turn: 0 };
+            replace_parity_at(bay, geo, 3, former, 1, PARITY, area)
+        }
+        Call::Newer => store_parity(bay, geo, 3, 2368, PARITY, 2, area),
+        Call::Older => store_parity(bay, geo, 3, 576, PARITY, 0, area),
+        Call::FreeOlder => free_older(bay, geo, 3, &[5]),
+    }
+}
+
+// What stands in slots 0, 1 and 5.
+type Standing = [Option<Header>; 3];
+
+fn standing(bay: &mut MemOutside, geo: &Geometry) -> Result<Standing, Failed> {
+    Ok([
+        header_at(bay, geo, 3, 128)?,
+        header_at(bay, geo, 3, 576)?,
+        header_at(bay, geo, 3, 2368)?,
+    ])
+}
+
+const FREE: Option<Header> = Some(Header::Free);
+
+fn share(len: u32) -> Option<Header> {
+    Some(Header::Share { id: SHARE, len })
 }
 
 fn parity(turn: u8) -> Option<Header> {
@@ -29,32 +72,29 @@ fn parity(turn: u8) -> Option<Header> {
     })
 }
 
-#[test]
-fn a_parity_moves_to_another_slot_with_the_next_turn(rt: HostRuntime) -> Result<(), Fail> {
-    let geo = system()?;
-    let mut bay = formatted(rt.alloc())?;
-    let area = parity_area(rt.alloc(), &[3, 2], b"xyz")?;
-    let former = ParitySlot { slot: 0, turn: 0 };
-    store_parity_at(&mut bay, &geo, 3, 0, PARITY, area.as_slice())?;
-    replace_parity_at(&mut bay, &geo, 3, former, 1, PARITY, area.as_slice())?;
-    assert_eq!(rt; header_at(&mut bay, &geo, 3, 576)?, parity(1));
-    assert_eq!(rt; header_at(&mut bay, &geo, 3, 128)?, Some(Header::Free));
-    Ok(())
+fn rows() -> [(Call, Standing); 9] {
+    [
+        (Call::Store, [FREE, share(3), FREE]),
+        (Call::Append, [FREE, share(5), FREE]),
+        (Call::Free, [FREE, FREE, FREE]),
+        (Call::Parity, [parity(0), FREE, FREE]),
+        (Call::Replace, [FREE, parity(1), FREE]),
+        (Call::Free, [FREE, FREE, FREE]),
+        (Call::Newer, [FREE, FREE, parity(2)]),
+        (Call::Older, [FREE, parity(0), parity(2)]),
+        (Call::FreeOlder, [FREE, parity(0), FREE]),
+    ]
 }
 
 #[test]
-fn the_older_parity_is_freed(rt: HostRuntime) -> Result<(), Fail> {
+fn fragments_go_through_their_slots(rt: HostRuntime) -> Result<(), Fail> {
     let geo = system()?;
     let mut bay = formatted(rt.alloc())?;
     let area = parity_area(rt.alloc(), &[3, 2], b"xyz")?;
-    for (slot, turn) in [(5, 2), (1, 0)] {
-        let place = place_of(&geo, slot);
-        store_parity(&mut bay, &geo, 3, place, PARITY, turn, area.as_slice())?;
+    for (call, wanted) in rows() {
+        make(&mut bay, &geo, area.as_slice(), call)?;
+        assert_eq!(rt; standing(&mut bay, &geo)?, wanted, "at {call:?}");
     }
-    free_older(&mut bay, &geo, 3, &[5])?;
-    assert_eq!(rt; header_at(&mut bay, &geo, 3, 576)?, parity(0));
-    let freed = header_at(&mut bay, &geo, 3, place_of(&geo, 5))?;
-    assert_eq!(rt; freed, Some(Header::Free));
     Ok(())
 }
 
@@ -70,7 +110,9 @@ fn the_super_cell_tells_the_sizes_and_the_fence(rt: HostRuntime) -> Result<(), F
     fence_at(&mut bay, &geo, 3, ServerId(3), 2)?;
     assert_eq!(rt; bay.platter(3).len(), 3712);
     assert_eq!(rt; get(&mut bay, 3, 0), Ok(SUPER));
-    assert_eq!(rt; find_fence(&mut bay, &geo, 3, ServerId(3))?, Some(2));
-    assert_eq!(rt; find_fence(&mut bay, &geo, 3, ServerId(2))?, None);
+    for (server, wanted) in [(3, Some(2)), (2, None)] {
+        let found = find_fence(&mut bay, &geo, 3, ServerId(server))?;
+        assert_eq!(rt; found, wanted);
+    }
     Ok(())
 }

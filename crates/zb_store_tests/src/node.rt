@@ -72,6 +72,20 @@ enum Told {
     Blank,
 }
 
+/// What happens to a node before it is asked: its platter is formatted or stops at its n-th write, it comes up, or it
+/// crashes.
+#[derive(Clone, Copy)]
+enum Event {
+    Nothing,
+    Format,
+    Stop(u64),
+    Up(Result<(), OpenFault>),
+    Crash,
+}
+
+/// What happens, and then a request of a generation, and what is answered.
+type Row = (Event, u64, Step, Told);
+
 fn request(alloc: Global, step: Step) -> Mem<Request>
     ensures { IfOk result (λ request. (geo : SeenGeometry) → geo.servers ≡ 3 → geo.fragment ≡ 256 → FitsSystem geo request) }
 {
@@ -129,14 +143,6 @@ impl Bench {
         })
     }
 
-    // A node that is up with an empty store.
-    fn formatted(alloc: Global, choices: &[u8]) -> Result<Bench, Fail> {
-        let mut bench = Bench::new(alloc, choices)?;
-        FragStore::format(alloc, &mut bench.bay, &bench.geo, bench.server, 1)?;
-        bench.up(alloc)?;
-        Ok(bench)
-    }
-
     fn up(&mut self, alloc: Global) -> Result<(), OpenFault> {
         self.bay.disarm(1);
         self.node.up(alloc, &mut self.bay, &self.geo, self.server)
@@ -147,79 +153,121 @@ impl Bench {
         let response = self.node.serve(alloc, &mut self.bay, generation, &request);
         Ok(summary(&response))
     }
-}
 
-#[test]
-fn requests_are_answered_by_the_store(rt: HostRuntime) -> Result<(), Fail> {
-    let short = StoreFault::Short { len: 5 };
-    let old = StoreFault::OldGeneration { now: 2 };
-    let table = [
-        (1, Step::Store(*b"abc"), Told::Done),
-        (1, Step::Append(3, *b"de"), Told::Done),
-        (1, Step::Parity(*b"xyz"), Told::Done),
-        (1, Step::Retrieve(SHARE, 5), Told::Bytes(5, Some(b'a'))),
-        (1, Step::Retrieve(SHARE, 6), Told::Refused(short)),
-        (1, Step::Retrieve(PARITY, 4), Told::Parity(2, 4, Some(b'x'))),
-        (
-            1,
-            Step::Identify(None),
-            Told::Names([Some(SHARE), Some(PARITY), None]),
-        ),
-        (
-            1,
-            Step::Identify(Some(SHARE)),
-            Told::Names([Some(PARITY), None, None]),
-        ),
-        (1, Step::Fence(2), Told::Done),
-        (1, Step::Retrieve(SHARE, 1), Told::Refused(old)),
-        (1, Step::Delete, Told::Done),
-        (2, Step::Delete, Told::Refused(StoreFault::NoFragment)),
-    ];
-    let mut bench = Bench::formatted(rt.alloc(), &[])?;
-    for (generation, step, wanted) in table {
-        assert_eq!(rt; bench.serve(rt.alloc(), generation, step)?, wanted);
+    fn meet(&mut self, alloc: Global, event: Event) -> Result<(), Fail> {
+        match event {
+            Event::Nothing => {}
+            Event::Format => {
+                FragStore::format(alloc, &mut self.bay, &self.geo, self.server, 1)?;
+            }
+            Event::Stop(n) => self.bay.arm(1, n.max(1)),
+            Event::Up(wanted) => {
+                if self.up(alloc) != wanted {
+                    return Err(Fail::new("it comes up otherwise"));
+                }
+            }
+            Event::Crash => self.node.crash(),
+        }
+        Ok(())
     }
-    Ok(())
 }
 
-#[test]
-fn a_node_goes_down_with_its_platter_and_comes_back(rt: HostRuntime) -> Result<(), Fail> {
-    let alloc = rt.alloc();
-    let mut bench = Bench::formatted(alloc, &[])?;
-    bench.bay.arm(1, 1);
-    assert_eq!(rt; bench.serve(alloc, 1, Step::Store(*b"abc"))?, Told::Down);
-    assert!(rt; !bench.node.serving());
-    assert_eq!(rt; bench.serve(alloc, 1, Step::Delete)?, Told::Down);
-    assert_eq!(rt; bench.up(alloc), Ok(()));
-    assert_eq!(rt; bench.serve(alloc, 1, Step::Store(*b"abc"))?, Told::Done);
-    bench.node.crash();
-    assert_eq!(rt; bench.serve(alloc, 1, Step::Delete)?, Told::Down);
-    assert_eq!(rt; bench.up(alloc), Ok(()));
-    assert!(rt; bench.node.serving());
-    assert_eq!(rt; bench.serve(alloc, 1, Step::Delete)?, Told::Done);
-    Ok(())
+/// The first row that is answered otherwise by a node, down at first and on a platter that leaves these images at its
+/// restarts, or where the node doesn't serve exactly where its store answers.
+fn first_other(alloc: Global, choices: &[u8], rows: &[Row]) -> Result<Option<(usize, Told)>, Fail> {
+    let mut bench = Bench::new(alloc, choices)?;
+    for (i, (event, generation, step, wanted)) in rows.iter().copied().enumerate() {
+        bench.meet(alloc, event)?;
+        let told = bench.serve(alloc, generation, step)?;
+        let answers = told != Told::Down && told != Told::Blank;
+        if told != wanted || bench.node.serving() != answers {
+            return Ok(Some((i, told)));
+        }
+    }
+    Ok(None)
 }
 
-#[test]
-fn a_node_with_no_store_is_blank(rt: HostRuntime) -> Result<(), Fail> {
-    let mut bench = Bench::new(rt.alloc(), &[])?;
-    assert_eq!(rt; bench.up(rt.alloc()), Err(OpenFault::Blank));
-    assert_eq!(rt; bench.serve(rt.alloc(), 1, Step::Delete)?, Told::Blank);
-    assert!(rt; !bench.node.serving());
-    Ok(())
+const NOTHING: Event = Event::Nothing;
+
+const UP: Event = Event::Up(Ok(()));
+
+const BLANK: Event = Event::Up(Err(OpenFault::Blank));
+
+const ABC: Step = Step::Store(*b"abc");
+
+const SHORT: Told = Told::Refused(StoreFault::Short { len: 5 });
+
+const OLD: Told = Told::Refused(StoreFault::OldGeneration { now: 2 });
+
+const NONE: Told = Told::Refused(StoreFault::NoFragment);
+
+const EXISTS: Told = Told::Refused(StoreFault::Exists);
+
+const ALL: Told = Told::Names([Some(SHARE), Some(PARITY), None]);
+
+const BEHIND: Told = Told::Names([Some(PARITY), None, None]);
+
+const ANSWERED: [Row; 13] = [
+    (Event::Format, 1, Step::Delete, Told::Down),
+    (UP, 1, ABC, Told::Done),
+    (NOTHING, 1, Step::Append(3, *b"de"), Told::Done),
+    (NOTHING, 1, Step::Parity(*b"xyz"), Told::Done),
+    (
+        NOTHING,
+        1,
+        Step::Retrieve(SHARE, 5),
+        Told::Bytes(5, Some(b'a')),
+    ),
+    (NOTHING, 1, Step::Retrieve(SHARE, 6), SHORT),
+    (
+        NOTHING,
+        1,
+        Step::Retrieve(PARITY, 4),
+        Told::Parity(2, 4, Some(b'x')),
+    ),
+    (NOTHING, 1, Step::Identify(None), ALL),
+    (NOTHING, 1, Step::Identify(Some(SHARE)), BEHIND),
+    (NOTHING, 1, Step::Fence(2), Told::Done),
+    (NOTHING, 1, Step::Retrieve(SHARE, 1), OLD),
+    (NOTHING, 1, Step::Delete, Told::Done),
+    (NOTHING, 2, Step::Delete, NONE),
+];
+
+const DOWN_AND_UP: [Row; 7] = [
+    (Event::Format, 1, Step::Delete, Told::Down),
+    (UP, 1, Step::Delete, NONE),
+    (Event::Stop(1), 1, ABC, Told::Down),
+    (NOTHING, 1, Step::Delete, Told::Down),
+    (UP, 1, ABC, Told::Done),
+    (Event::Crash, 1, Step::Delete, Told::Down),
+    (UP, 1, Step::Delete, Told::Done),
+];
+
+const NEVER_FORMATTED: [Row; 1] = [(BLANK, 1, Step::Delete, Told::Blank)];
+
+// A store that is stopped at its last write, and what is answered to it again after the restart that brings its node up.
+fn stopped(again: Told) -> [Row; 4] {
+    [
+        (Event::Format, 1, Step::Delete, Told::Down),
+        (UP, 1, Step::Delete, NONE),
+        (Event::Stop(3), 1, ABC, Told::Down),
+        (UP, 1, ABC, again),
+    ]
 }
 
-// Whether a store that was stopped at its last write was lost, and not synced, by the restart that brings its node up: for a
-// restart that leaves no unsynced write, and for one that leaves them all.
+// The stopped store was lost, and not synced, by the restart: once for a restart that leaves no unsynced write, and once for
+// one that leaves them all.
 #[test]
-fn a_node_comes_up_by_a_restart(rt: HostRuntime) -> Result<(), Fail> {
-    let alloc = rt.alloc();
-    for (choice, wanted) in [(0, Told::Done), (1, Told::Refused(StoreFault::Exists))] {
-        let mut bench = Bench::formatted(alloc, &[0, choice])?;
-        bench.bay.arm(1, 3);
-        assert_eq!(rt; bench.serve(alloc, 1, Step::Store(*b"abc"))?, Told::Down);
-        assert_eq!(rt; bench.up(alloc), Ok(()));
-        assert_eq!(rt; bench.serve(alloc, 1, Step::Store(*b"abc"))?, wanted);
+fn a_node_answers_by_its_store_and_comes_back(rt: HostRuntime) -> Result<(), Fail> {
+    let table: [(&str, &[u8], &[Row]); 5] = [
+        ("up", &[], &ANSWERED),
+        ("down and up", &[], &DOWN_AND_UP),
+        ("blank", &[], &NEVER_FORMATTED),
+        ("none left", &[0, 0], &stopped(Told::Done)),
+        ("all left", &[0, 1], &stopped(EXISTS)),
+    ];
+    for (name, choices, rows) in table {
+        assert_eq!(rt; first_other(rt.alloc(), choices, rows)?, None, "{name}");
     }
     Ok(())
 }

@@ -14,14 +14,11 @@ const SERVER: ServerId = ServerId(1);
 
 // The payload of a header: its index, kind, turn, and the two low bytes of its length.
 fn header(index: u8, kind: u8, turn: u8, length: [u8; 2]) -> [u8; 40] {
-    let mut payload = [0; 40];
-    payload[3] = 1;
-    payload[12] = index;
-    payload[13] = kind;
-    payload[14] = turn;
-    payload[18] = length[0];
-    payload[19] = length[1];
-    payload
+    let [high, low] = length;
+    [
+        0, 0, 0, 1, 0, 0, 0, 0, 0, 0, 0, 0, index, kind, turn, 0, 0, 0, high, low, 0, 0, 0, 0, 0,
+        0, 0, 0, 0, 0, 0, 0, 0, 0, 0, 0, 0, 0, 0, 0,
+    ]
 }
 
 // Opens a platter with these headers in its first three slots, and tells the free slots.

@@ -7,7 +7,7 @@ use std::test::Fail;
 use zb_devices::MemOutside;
 use zb_fragstore::FragStore;
 use zb_outside::{Bay, Fused};
-use zb_types::{Class, FragId, LogId, Response, ServerId, StoreFault};
+use zb_types::{Class, FragId, LogId, Mem, Response, ServerId, StoreFault};
 
 const SERVER: ServerId = ServerId(1);
 
@@ -121,6 +121,25 @@ impl Bench {
 
     fn fence(&mut self, generation: u64) -> Result<(), StoreFault> {
         self.store.fence(&mut self.bay, generation)
+    }
+
+    // The n-th write from now stops the platter.
+    fn arm(&mut self, n: u64)
+        requires { 1 ≤ n }
+    {
+        self.bay.arm(1, n);
+    }
+
+    // Whether the names above this one are these.
+    fn has_names(&self, alloc: Global, after: Option<FragId>, wanted: &[FragId]) -> Mem<bool> {
+        let names = self.store.identify(alloc, after)?;
+        Ok(names.slice() == wanted)
+    }
+
+    // Stores a share and a parity of stripe 0.
+    fn fill(&mut self, alloc: Global) -> Result<(), StoreFault> {
+        self.store(alloc, 0, b"abc", 1)?;
+        self.parity(alloc, 0, [3, 0], b"abc")
     }
 
     // Restarts the platter, and opens the store again.
@@ -281,26 +300,30 @@ fn shares_are_answered_by_the_rules(rt: HostRuntime) -> Result<(), Fail> {
     for (call, wanted) in table {
         assert_eq!(rt; free_after(&mut bench, rt.alloc(), call), wanted);
     }
-    let names = bench.store.identify(rt.alloc(), None)?;
-    assert_eq!(rt; names.slice(), [id(1, 0), id(2, 0), id(3, 0)].as_slice());
-    let above = bench.store.identify(rt.alloc(), Some(id(1, 0)))?;
-    assert_eq!(rt; above.slice(), [id(2, 0), id(3, 0)].as_slice());
+    let names = [id(1, 0), id(2, 0), id(3, 0)];
+    assert!(rt; bench.has_names(rt.alloc(), None, &names)?);
+    assert!(rt; bench.has_names(rt.alloc(), Some(id(1, 0)), &names[1..])?);
     Ok(())
+}
+
+// The lengths and the bytes of a parity that was read.
+fn parity_of(response: &Response) -> Option<(&[u32], &[u8])> {
+    match response {
+        Response::Parity { lengths, bytes } => Some((lengths.slice(), bytes.slice())),
+        _ => None,
+    }
 }
 
 #[test]
 fn a_parity_is_read_with_its_lengths_and_zeros_past_its_end(rt: HostRuntime) -> Result<(), Fail> {
     let mut bench = Bench::new(rt.alloc(), 0)?;
     bench.parity(rt.alloc(), 0, [3, 2], b"xyz")?;
-    match bench.retrieve(rt.alloc(), id(0, 2), 1, 5, 1)? {
-        Response::Parity { lengths, bytes } => {
-            assert_eq!(rt; lengths.slice(), [3, 2].as_slice());
-            assert_eq!(rt; bytes.slice(), b"yz\0\0".as_slice());
-        }
-        _ => return Err(Fail::new("no parity")),
-    }
-    let names = bench.store.identify(rt.alloc(), None)?;
-    assert_eq!(rt; names.slice(), [id(0, 2)].as_slice());
+    let response = bench.retrieve(rt.alloc(), id(0, 2), 1, 5, 1)?;
+    assert_eq!(rt;
+        parity_of(&response),
+        Some(([3, 2].as_slice(), b"yz\0\0".as_slice()))
+    );
+    assert!(rt; bench.has_names(rt.alloc(), None, &[id(0, 2)])?);
     Ok(())
 }
 
@@ -329,8 +352,7 @@ fn make(bench: &mut Bench, alloc: Global, change: Change) -> Result<(), StoreFau
 // A store with one share and one parity.
 fn prepared(alloc: Global, choice: u8) -> Result<Bench, Fail> {
     let mut bench = Bench::new(alloc, choice)?;
-    bench.store(alloc, 0, b"abc", 1)?;
-    bench.parity(alloc, 0, [3, 0], b"abc")?;
+    bench.fill(alloc)?;
     Ok(bench)
 }
 
@@ -341,13 +363,20 @@ fn view_after(alloc: Global, change: Change) -> Result<View, Fail> {
     bench.view(alloc)
 }
 
+// Whether a change is stopped at its n-th write.
+fn is_stopped(bench: &mut Bench, alloc: Global, change: Change, n: u64) -> bool
+    requires { 1 ≤ n }
+{
+    bench.arm(n);
+    make(bench, alloc, change).is_err()
+}
+
 // What is shown where a change is stopped at its n-th write, and the store is opened again: none where it has fewer.
 fn view_after_stop(alloc: Global, change: Change, n: u64, choice: u8) -> Result<Option<View>, Fail>
     requires { 1 ≤ n }
 {
     let mut bench = prepared(alloc, choice)?;
-    bench.bay.arm(1, n);
-    if make(&mut bench, alloc, change).is_ok() {
+    if !is_stopped(&mut bench, alloc, change, n) {
         return Ok(None);
     }
     bench.reopen(alloc)?;

@@ -1,4 +1,4 @@
--- Clock a line may stand in a report, behind the lines before it.
+-- When a line may stand in a report, behind the lines before it.
 use Rattle.std.specs.Prelude.{◌≡◌, ℕ, zero, suc, ◌+◌, ◌-◌, ◌≤◌, ◌<◌, Bool, true, false, not, List, [], ◌∷◌, ◌++◌, length, Option, Some, None, ◌&&◌, ◌||◌, nat_le}
 use Rattle.std.specs.List.{list_any}
 use Rattle.zb_types.specs.declared.calls.Call.{Call}

@@ -88,7 +88,7 @@ is_about subject (Steps actor count) = false
 is_about subject (StepTo actor kind) = false
 is_about subject (EventLine event) = same_subject subject (subject_of_event event)
 
--- how many lines of a script, of a report, have this subject
+-- how many lines of a script have this subject
 abbrev pub asked_of : Subject → List Line → ℕ
 asked_of subject script = length (filter (is_about subject) script)
 

@@ -18,7 +18,7 @@ use zb_types::Failed;
 /// tells nothing.
 ///
 /// Platter i is the file `platter` followed by i in the current folder. It is opened at the first call of the platter and
-/// kept open. A read, write or sync is one call of the system, and a write of no bytes past the end makes the file longer. A
+/// kept open. A write or sync is one call of the system, and a write of no bytes past the end makes the file longer. A
 /// path that can't be opened, a full disk, a short write and a want of memory are faults of that platter. After a sync that
 /// failed, what was written may be lost though a later one works: from then on each call of the platter fails, until it is
 /// blanked, or another outside reads the file anew. A read or write that was interrupted is made again. A writer that takes

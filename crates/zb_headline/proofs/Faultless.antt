@@ -101,7 +101,8 @@ module _ (script : List Line) (before : List Outcome) (writes : ℕ → ℕ → 
   no_server i (inl h) = no_stand (takes_down i) (puts_up i) (record { none = not_down i }) h
   no_server i (inr (inl h)) = no_rise (puts_up i) i h
   no_server i (inr (inr (inl h))) = no_arm (Server i) i h
-  no_server i (inr (inr (inr h))) = absurd (h.unfit refl)
+  no_server i (inr (inr (inr (inl h)))) = absurd (h.unfit refl)
+  no_server i (inr (inr (inr (inr h)))) = absurd (h.unfit refl)
 
   no_manager : {X : Type 0} → ManagerReason here → X
   no_manager (inl h) = no_stand (is_event (crashes Manager)) (is_event (ups Manager)) (event_of (crashes Manager)) h

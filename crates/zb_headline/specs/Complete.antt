@@ -1,4 +1,4 @@
--- Completeness: what a run of a script of the language comes to where no platter and no stream failed.
+-- Completeness of `run`: what a run of a script of the language comes to where no platter and no stream failed.
 use Rattle.std.specs.Prelude.{◌≡◌, ◌⊎◌, ℕ, ◌-◌, ◌≤◌, Bool, true, false, List, []}
 use Rattle.std.specs.List.{list_any, AllByRecursion}
 use Rattle.zb_types.specs.declared.geometry.Geometry.{Geometry}
@@ -20,17 +20,17 @@ use Rattle.zb_headline.specs.Headline.{Witness, RunsSafely}
 use Rattle.zb_headline.specs.Need.{space_needed}
 
 -- a line by which nodes or platters are lost, or rebuilt
-abbrev pub befalls : Line → Bool
-befalls (CallLine plus client call) = false
-befalls (JobLine plus Clean) = false
-befalls (JobLine plus (Rebuild server)) = true
-befalls (Steps actor count) = false
-befalls (StepTo actor kind) = false
-befalls (EventLine (Crash node)) = true
-befalls (EventLine (Arm node count)) = true
-befalls (EventLine (Up node)) = false
-befalls (EventLine (Lose server)) = true
-befalls (EventLine Checkpoint) = false
+abbrev pub takes_away : Line → Bool
+takes_away (CallLine plus client call) = false
+takes_away (JobLine plus Clean) = false
+takes_away (JobLine plus (Rebuild server)) = true
+takes_away (Steps actor count) = false
+takes_away (StepTo actor kind) = false
+takes_away (EventLine (Crash node)) = true
+takes_away (EventLine (Arm node count)) = true
+takes_away (EventLine (Up node)) = false
+takes_away (EventLine (Lose server)) = true
+takes_away (EventLine Checkpoint) = false
 
 -- a line that is more than a call or an event in its turn
 abbrev pub is_beside : Line → Bool
@@ -79,10 +79,10 @@ is_replied line = true
 pub record IsComplete (geo : Geometry) (script : List Line) (all : List Outcome) (status : ℕ) : Type 0 where
   -- the script is read to its end, and each call, job and event has its last line
   pub ends : (status ≡ 6) ⊎ (((status ≡ 0) ⊎ (status ≡ 7)) × (all_ended all [] script ≡ true))
-  -- where nothing befalls the nodes only space may be wanting
-  pub calm : list_any befalls script ≡ false → AllByRecursion (λ line. lacks_space_alone line ≡ true) all
+  -- where nothing takes_away the nodes only space may be wanting
+  pub calm : list_any takes_away script ≡ false → AllByRecursion (λ line. lacks_space_alone line ≡ true) all
   -- and where one call comes after the other, and there is ample space, nothing is
-  pub ample : list_any befalls script ≡ false → list_any is_beside script ≡ false → space_needed geo script ≤ geo.slots - 4
+  pub ample : list_any takes_away script ≡ false → list_any is_beside script ≡ false → space_needed geo script ≤ geo.slots - 4
       → AllByRecursion (λ line. is_replied line ≡ true) all × ((status ≡ 0) ⊎ (status ≡ 6))
 
 -- the whole script is in the language
@@ -96,7 +96,7 @@ pub record RunsComplete (w : Witness) (status : ℕ) (bytes printed : List ℕ) 
   pub safely : RunsSafely w status bytes printed
   pub complete : IsComplete safely.run.geo (lines_in safely.run.rows) safely.run.all status
 
--- The clause of a run of a whole script, where `quiet` says that no count of failed calls rose: memory ran out before its
--- first line, or its lines come to this.
-abbrev pub IsCompleteRun : Witness → Type 0 → List ℕ → ℕ → List ℕ → List ℕ → Type 0
-IsCompleteRun w quiet script status bytes printed = quiet → IsInLanguage script → ((status ≡ 6) × RunsNone whole status bytes printed) ⊎ RunsComplete w status bytes printed
+-- The clause of a run of a script, with all of it that was taken or left, where `quiet` says that no count of failed calls
+-- rose: memory ran out before its first line, or its lines come to this.
+abbrev pub IsCompleteRun : Witness → Type 0 → List ℕ → ℕ → List ℕ → Type 0
+IsCompleteRun w quiet script status printed = quiet → IsInLanguage script → ((status ≡ 6) × RunsNone whole status script printed) ⊎ RunsComplete w status script printed

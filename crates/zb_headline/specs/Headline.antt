@@ -71,7 +71,7 @@ pub record AtMoment (c : Course) (all : List Outcome) (tail : List ℕ) (m : Mom
 -- the tree after all updates, or that the file manager is down
 abbrev pub TellsTreeOrDown : Witness → Tails
 TellsTreeOrDown w script all text = TellsTree script all text
-    ⊎ ((text ≡ codes "tree down" ++ newline) × ManagerReason (place_in (course_of w script) all (λ m. w.moments m × Stand all m)))
+    ⊎ ((text ≡ codes "tree down" ++ newline) × ManagerReason (place_in (course_of w script) all all (λ m. w.moments m × Stand all m)))
 
 -- a run of a script with a header: each line has its reason, and at each shown moment the disks recover to the history so far
 pub record RunsSafely (w : Witness) (status : ℕ) (bytes printed : List ℕ) : Type 0 where
@@ -79,6 +79,7 @@ pub record RunsSafely (w : Witness) (status : ℕ) (bytes printed : List ℕ) : 
   pub reasons : AreReasoned (course_of w (lines_in run.rows)) printed run.all run.tail
   pub moments : (m : Moment) → w.moments m → is_shown m ≡ true → AtMoment (course_of w (lines_in run.rows)) run.all run.tail m
 
--- the clause of a run: the bytes taken and printed, the moments that it has been through, and the status
+-- The clause of a run, by its status, the bytes that it took and those that it printed, and its moments. It is to be
+-- claimed of the bytes that were taken, and of these with all that was left of the script.
 abbrev pub RunsAsOneHistory : Witness → ℕ → List ℕ → List ℕ → Type 0
 RunsAsOneHistory w status bytes printed = RunsSafely w status bytes printed ⊎ RunsNone whole status bytes printed

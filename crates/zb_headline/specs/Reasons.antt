@@ -56,12 +56,13 @@ pub record Place : Type 1 where
 abbrev pub InOrder : Place → Type 0 → Type 0
 InOrder at P = at.clock.ordered ≡ true → P
 
--- this holds at a point of the report that none of these marks has followed
+-- This holds at a point of the report that none of these marks has followed. Behind the last line of the script marks
+-- don't count, since the lines of a finish are printed at once.
 pub record Since (at : Place) (marks : Outcome → Bool) (P : List Outcome → Type 0) : Type 0 where
   pub front : List Outcome
   pub rest : List Outcome
   pub split : at.before ≡ front ++ rest
-  pub since : list_any marks rest ≡ false
+  pub since : (not (list_any marks rest) || at.clock.over front) ≡ true
   pub holds : P front
 
 -- a platter's count of failed calls rose since the last of these marks
@@ -94,13 +95,19 @@ is_lost i (OfEvent (Lose server) EventDone) = server.0 == i
 is_lost i (OfEvent (Lose server) (Stopped node)) = server.0 == i
 is_lost i line = false
 
--- `up` or `rebuild` of this server that ended in its midst
+-- `up` of this server that ended in its midst, or its `rebuild` at a file manager that was down: its members may be in doubt
 abbrev pub is_failed : ℕ → Outcome → Bool
 is_failed i (OfEvent (Up (Server s)) (Stopped node)) = s == i
-is_failed i (OfRebuild server (MendFailed cause)) = server.0 == i
-is_failed i (OfRebuild server FailedServer) = server.0 == i
-is_failed i (OfRebuild server MendDropped) = server.0 == i
+is_failed i (OfRebuild server (MendFailed Down)) = server.0 == i
 is_failed i line = false
+
+-- a `rebuild` of this server that ended, maybe in its midst
+abbrev pub is_half_mended : ℕ → Outcome → Bool
+is_half_mended i (OfRebuild server (MendFailed (Unreachable a b))) = server.0 == i
+is_half_mended i (OfRebuild server (MendFailed (NoSpace full))) = server.0 == i
+is_half_mended i (OfRebuild server FailedServer) = server.0 == i
+is_half_mended i (OfRebuild server MendDropped) = server.0 == i
+is_half_mended i line = false
 
 -- it is down from here on
 abbrev pub takes_down : ℕ → Outcome → Bool
@@ -119,9 +126,13 @@ abbrev pub copies_begun : Place → List Outcome → Node → List Outcome → B
 copies_begun at front (Server i) rest = are_begun at front i front rest
 copies_begun at front node rest = true
 
--- the arm that is told behind `front` is for so many writes, nothing has disarmed it, and so many have come
+-- it disarms the node's platter, or arms it anew
+abbrev pub rearms : Node → Outcome → Bool
+rearms node line = is_event (ups node) line || is_event (arms node) line
+
+-- the arm that is told behind `front` is for so many writes, nothing has ended it, and so many have come
 pub record IsSpent (at : Place) (node : Node) (platter : ℕ) (front rest : List Outcome) : Type 0 where
-  pub since : list_any (is_event (ups node)) rest ≡ false
+  pub since : list_any (rearms node) rest ≡ false
   pub copies : copies_begun at front node rest ≡ true
   pub place : ℕ
   pub count : ℕ
@@ -142,9 +153,14 @@ pub record IsChanging (at : Place) (i : ℕ) : Type 0 where
   pub unfit : InOrder at (at.shown.unfit i)
   pub begun : (is_under_way at (loses i) || is_under_way at (rebuilds i)) ≡ true
 
+-- a `rebuild` of the server has ended since it was last put up, and its platter isn't fit
+pub record IsHalfMended (at : Place) (i : ℕ) : Type 0 where
+  pub unfit : InOrder at (at.shown.unfit i)
+  pub ended : stands (is_half_mended i) (puts_up i) at.before ≡ true
+
 -- a server doesn't serve
 abbrev pub ServerReason : Place → ℕ → Type 0
-ServerReason at i = (stands (takes_down i) (puts_up i) at.before ≡ true) ⊎ (Rose at (puts_up i) i ⊎ (WasArmed at (Server i) i ⊎ IsChanging at i))
+ServerReason at i = (stands (takes_down i) (puts_up i) at.before ≡ true) ⊎ (Rose at (puts_up i) i ⊎ (WasArmed at (Server i) i ⊎ (IsChanging at i ⊎ IsHalfMended at i)))
 
 -- a node has crashed, and wasn't put up since
 abbrev pub is_crashed : Place → Node → Type 0

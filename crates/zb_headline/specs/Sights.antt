@@ -1,7 +1,8 @@
--- What the images of all platters say, as a crash may leave them: each part is a definition over images alone.
+-- What the images of all platters say, as a crash may leave them.
 use Rattle.std.specs.Prelude.{ℕ, List, Option}
 use Rattle.zb_types.specs.Tree.{Tree}
 
+-- what images say; each part is to be a definition over images alone
 pub record Sight : Type 1 where
   -- this server may be missing, or none may
   pub may_miss : (ℕ → List ℕ) → Option ℕ → Type 0

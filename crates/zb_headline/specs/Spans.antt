@@ -83,14 +83,15 @@ pub record IsOvertaken (sight : Sight) (Span : Moment → Type 0) (server : ℕ)
   pub mends : Sees Span (λ images. sight.mends images server generation)
   pub after : Sees Span (λ images. sight.generation images later)
 
--- What is seen at the moments of a span. The write that blows a fuse is passed on to the device, whose writes a moment
+-- What is seen at the moments of a span, behind these lines; a stripe is released where it isn't held once these others
+-- are told. The write that blows a fuse is passed on to the device, whose writes a moment
 -- counts; those that the blown fuse holds back aren't.
-abbrev pub shown_in : Course → List Outcome → (Moment → Type 0) → Shown
-shown_in c before Span = record {
+abbrev pub shown_in : Course → List Outcome → List Outcome → (Moment → Type 0) → Shown
+shown_in c before told Span = record {
   rose = λ platter n. HasRisen c (λ m. m.faults platter) (take n before) Span 1;
   wrote = λ platter n k. HasRisen c (λ m. m.writes platter) (take n before) Span k;
   unfit = λ i. Sees Span (λ images. c.sight.unfit images i);
-  released = λ log stripe. Sees Span (λ images. c.sight.holds images log stripe → ⊥);
+  released = λ log stripe. (m : Moment) → c.moments m → Stand told m → c.sight.holds m.images log stripe → ⊥;
   named = λ i. Sees Span (λ images. c.sight.names images i);
   mending = Sees Span (SomeMends c.sight);
   free = λ platter most. Sees Span (λ images. HasFree c.sight images platter most);
@@ -100,14 +101,31 @@ shown_in c before Span = record {
   cited = λ log stripe. Sees Span (λ images. c.sight.cited images log stripe);
 }
 
--- the place behind these lines, seen at these moments
-abbrev pub place_in : Course → List Outcome → (Moment → Type 0) → Place
-place_in c before Span = record { script = c.script; clock = c.clock; before = before; shown = shown_in c before Span }
+-- the place behind these lines, seen at these moments, where these lines are told in the end
+abbrev pub place_in : Course → List Outcome → List Outcome → (Moment → Type 0) → Place
+place_in c before told Span = record { script = c.script; clock = c.clock; before = before; shown = shown_in c before told Span }
 
 -- the place of a line
 abbrev pub place_of : Course → List Outcome → Outcome → Place
-place_of c before line = place_in c before (IsInSpan c before line)
+place_of c before line = place_in c before (before ++ line ∷ []) (IsInSpan c before line)
 
 -- the place of a moment at which these lines stand
 abbrev pub place_at : Course → List Outcome → Moment → Place
-place_at c lines m = place_in c lines (λ other. other ≡ m)
+place_at c lines m = place_in c lines lines (λ other. other ≡ m)
+
+-- What is seen under `threads`, from the first moment to the last: counts are taken over the whole run, and of spans
+-- nothing is asked. That a platter has few free slots is as this says.
+abbrev pub shown_since : Moment → Moment → (ℕ → ℕ → Type 0) → Shown
+shown_since first last free = record {
+  rose = λ platter n. min (first.faults platter + 1) (2 ^ 64 - 1) ≤ last.faults platter;
+  wrote = λ platter n count. Unit {0};
+  unfit = λ i. Unit {0};
+  released = λ log stripe. Unit {0};
+  named = λ i. Unit {0};
+  mending = Unit {0};
+  free = free;
+  overtaken = λ i. Unit {0};
+  candidate = λ log stripe. Unit {0};
+  none = Unit {0};
+  cited = λ log stripe. Unit {0};
+}

@@ -21,10 +21,12 @@ FrontFits = (ordered : Bool) (script : List Line) (lines more : List Outcome) �
 
 -- The calls that are answered.
 
+-- a read that is answered with this reply
 abbrev pub read_if : ℕ → ℕ → Reply → Option Call → List Did
 read_if client n reply None = []
 read_if client n reply (Some call) = if is_update call then [] else record { client = client; number = n; call = call; reply = reply } ∷ []
 
+-- the read that a line answers with a reply, if it does
 abbrev pub read_of : List Line → Outcome → List Did
 read_of script (OfCall client n (Replied reply)) = read_if client n reply (call_of script client n)
 read_of script line = []
@@ -94,5 +96,6 @@ pub record IsInOrder (script : List Line) (lines : List Outcome) : Type 0 where
   pub updates_rise : Rises (dids script lines)
   pub reads_rise : Rises (reads script lines)
 
+-- a report that fits answers each client's calls once and in its order
 abbrev pub InOrder : Type 0
 InOrder = (ordered : Bool) (script : List Line) (lines : List Outcome) → FitLines ordered script lines → IsInOrder script lines

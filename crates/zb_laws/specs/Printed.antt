@@ -17,6 +17,7 @@ starts_call text = bytes_eq (take 1 text) (codes "c") && list_all (λ b. nat_lt 
 abbrev pub starts_line : List ℕ → Bool
 starts_line text = starts_call text || list_any (bytes_eq (take 3 text)) (codes "cle" ∷ codes "reb" ∷ codes "cra" ∷ codes "arm" ∷ codes "up " ∷ codes "los" ∷ codes "che" ∷ [])
 
+-- the same lines, and the same behind them
 pub record SameReport (lines others : List Outcome) (tail other : List ℕ) : Type 0 where
   pub same_lines : lines ≡ others
   pub same_tail : tail ≡ other
@@ -42,6 +43,7 @@ TailsDiffer g = (bytes : List ℕ) (geo : Geometry) (rows : List Row) (rest : Li
 abbrev pub LinesAloneDiffer : Grammar → Type 0
 LinesAloneDiffer g = (bytes : List ℕ) (end : ℕ) (last : List ℕ) → EndsBefore g bytes end last → starts_line last ≡ false
 
+-- the same sizes, lines, and what stands behind them
 pub record SameRun (geo other_geo : Geometry) (all other_all : List Outcome) (tail other_tail : List ℕ) : Type 0 where
   pub geometry : geo ≡ other_geo
   pub same_lines : all ≡ other_all

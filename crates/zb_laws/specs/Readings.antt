@@ -20,6 +20,7 @@ pub record IsReading (g : Grammar) (script : List ℕ) (geo : Geometry) (rows : 
   pub begins : Begins g script geo rows rest
   pub last : (rest ≡ []) ⊎ IsBad g script geo rest
 
+-- the same sizes, rows, and what follows them
 pub record SameReading (geo other : Geometry) (rows others : List Row) (rest more : List ℕ) : Type 0 where
   pub geometry : geo ≡ other
   pub same_rows : rows ≡ others

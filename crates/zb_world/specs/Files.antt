@@ -46,6 +46,7 @@ block_at blocks file k = bytes_at blocks (place_at file k)
 abbrev pub file_byte : ℕ → SeenBlocks → FileState → ℕ → ℕ
 file_byte size blocks file i = slice_index (block_at blocks file (i / size)) (i % size)
 
+-- the bytes of a file, by its blocks
 abbrev pub shown_bytes : ℕ → SeenBlocks → FileState → List ℕ
 shown_bytes size blocks file = first_bytes file.length (file_byte size blocks file)
 
@@ -67,9 +68,11 @@ pub record IsLaid (size : ℕ) (blocks : SeenBlocks) (file : FileState) : Type 0
 abbrev pub low_of : ℕ → ℕ → ℕ → ℕ
 low_of size offset k = max offset (k * size)
 
+-- where the part of a write within a block ends
 abbrev pub high_of : ℕ → ℕ → List ℕ → ℕ → ℕ
 high_of size offset bytes k = min (offset + length bytes) (k * size + size)
 
+-- the part of a write within a block
 abbrev pub part_of : ℕ → ℕ → List ℕ → ℕ → List ℕ
 part_of size offset bytes k = take (high_of size offset bytes k - low_of size offset k) (drop (low_of size offset k - offset) bytes)
 
@@ -96,6 +99,7 @@ abbrev pub EachFile : (FileState → Type 0) → List (ℕ × FileState) → Typ
 EachFile P [] = Unit {0}
 EachFile P (e ∷ es) = P e.1 × EachFile P es
 
+-- the files by number, with their bytes
 abbrev pub shown_files : ℕ → SeenBlocks → List (ℕ × FileState) → List (ℕ × List ℕ)
 shown_files size blocks files = changed (shown_bytes size blocks) files
 

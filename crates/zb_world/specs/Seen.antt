@@ -11,6 +11,7 @@ use Rattle.zb_types.specs.declared.lines.Outcome.{Outcome}
 use Rattle.zb_types.specs.declared.lines.Outcome.TheVariants.{Call as OfCall}
 use Rattle.zb_types.specs.Apply.{is_update}
 
+-- calls, lines and history
 pub record Seen : Type 0 where
   -- the calls, the lines that answer them, and how many of these were handed over to be printed
   pub calls : List Call
@@ -36,6 +37,7 @@ waiting s = drop s.told s.lines
 abbrev pub line_of : Call → Line
 line_of call = CallLine false 1 call
 
+-- the script of these calls
 abbrev pub script_of : List Call → List Line
 script_of calls = map line_of calls
 
@@ -60,6 +62,7 @@ numbers_from a (suc n) = a ∷ numbers_from (suc a) n
 abbrev pub did_by : ℕ → Call → Reply → List Did
 did_by n call reply = if is_update call then record { client = 1; number = n; call = call; reply = reply } ∷ [] else []
 
+-- the read that a call with its reply adds to a history
 abbrev pub saw_by : ℕ → ℕ → Call → Reply → List Saw
 saw_by n seen call reply = if is_update call then [] else record { client = 1; number = n; seen = seen; call = call; reply = reply } ∷ []
 

@@ -14,6 +14,7 @@ use Rattle.zebra.specs.Pending.{Pending}
 use Rattle.zebra.specs.Moves.{Tape, IsRead, IsTaken}
 use Rattle.zebra.specs.Rows.{NoRow, moved}
 
+-- the text of lines before a header
 abbrev pub heads_text : List (List ℕ) → List ℕ
 heads_text heads = flat_map ended_line heads
 
@@ -61,6 +62,7 @@ HeadIs place p (heads.Skipped len) = (text : List ℕ) × IsTrue (is_comment tex
 HeadIs place p (heads.Header geo len) = IsFront place p.rest (header_text geo) len
 HeadIs place p (heads.Missing number) = (number ≡ place.lines + 1) × NoRow place.geo place.used p
 
+-- how far the script's reader moves over what comes next before a header
 abbrev pub HeadMoves : Place → Head → Place → Type 0
 HeadMoves before (heads.Skipped len) after = after ≡ moved before len
 HeadMoves before (heads.Header geo len) after = after ≡ record { geo = Some geo; lines = before.lines + 1; used = before.used + len }
@@ -72,6 +74,7 @@ IsSystemOf at (System geo) = (at ≡ Some geo) × (geo.clients ≡ 1)
 IsSystemOf at (Missing number) = Unit {0}
 IsSystemOf at (Later number) = Unit {0}
 
+-- what the heading says of the bytes that were read
 abbrev pub HeadingIs : Heading → Tape → Place → Pending → Tape → Type 0
 HeadingIs (System geo) start place p now = HasSystem start geo place p now
 HeadingIs (Missing number) start place p now = LacksSystem start number p now
@@ -83,6 +86,7 @@ StillHeads (Ok None) place p before after_place q after = (start : Tape) → IsH
 StillHeads (Ok (Some heading)) place p before after_place q after = (start : Tape) → IsHeading start place p before → HeadingIs heading start after_place q after
 StillHeads (Err halted) place p before after_place q after = (start : Tape) → IsHeading start place p before → IsTaken start [] after
 
+-- what reading a header does
 abbrev pub Heads : Result Heading Halted → Place → Pending → Tape → Place → Pending → Tape → Type 0
 Heads (Ok heading) place p before after_place q after = (start : Tape) → IsHeading start place p before → HeadingIs heading start after_place q after
 Heads (Err halted) place p before after_place q after = (start : Tape) → IsHeading start place p before → IsTaken start [] after

@@ -14,6 +14,7 @@ pub record Tape : Type 0 where
   pub left : List ℕ
   pub printed : List ℕ
 
+-- what the streams and the meaning of an outside tell
 abbrev pub tape : Streams → Meaning → Tape
 tape streams m = record { taken = m.now.taken; left = streams.left; printed = m.now.printed }
 

@@ -2,11 +2,13 @@
 use Rattle.std.specs.Prelude.{ℕ, Bool, false, not, is_none, ◌&&◌, ◌==◌, nat_le, List, [], length, position}
 use Rattle.zb_script.specs.Places.{max_line}
 
+-- the bytes that were taken and not yet used, and whether the script has no more
 pub record Pending : Type 0 where
   pub rest : List ℕ
   -- the script has no more bytes
   pub ended : Bool
 
+-- none, at the start
 abbrev pub none_pending : Pending
 none_pending = record { rest = []; ended = false }
 

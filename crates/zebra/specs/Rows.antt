@@ -56,6 +56,7 @@ pub record IsLaterLine (place : Place) (p : Pending) : Type 0 where
   pub len : ℕ
   pub front : IsFront place p.rest (spelled line) len
 
+-- no byte is pending, and none comes
 pub record IsAtEnd (p : Pending) : Type 0 where
   pub none : p.rest ≡ []
   pub ended : p.ended ≡ true
@@ -76,6 +77,7 @@ NextIs place p (Ended ending) = EndsAt ending place p
 abbrev pub moved : Place → ℕ → Place
 moved place len = record { geo = place.geo; lines = place.lines + 1; used = place.used + len }
 
+-- how far the script's reader moves over a row
 abbrev pub MovesOn : Place → Next → Place → Type 0
 MovesOn before (NextCall client call len) after = after ≡ moved before len
 MovesOn before (Skipped len) after = after ≡ moved before len

@@ -22,6 +22,7 @@ pub record Start : Type 0 where
 abbrev pub front_of : Start → List Row → List ℕ
 front_of start rows = flat_map ended_line start.heads ++ header_text start.geo ++ rows_text rows
 
+-- the place behind these rows
 abbrev pub place_of : Start → List Row → Place
 place_of start rows = record { geo = Some start.geo; lines = length start.heads + 1 + length rows; used = length (front_of start rows) }
 
@@ -53,6 +54,7 @@ pub record IsBroken (halted : Halted) (start : Start) (s : Seen) (now : Tape) : 
   pub limit : length (front_of start rows) ≤ max_script
   pub printed : PrintsUntil halted start.tape.printed s now.printed
 
+-- the run goes on behind a row, or its rows ended
 abbrev pub GoesOn : Option Ending → Start → Place → Pending → Seen → Tape → Type 0
 GoesOn None start place p s now = IsRunning start place p s now
 GoesOn (Some ending) start place p s now = HasStopped ending start p s now

@@ -62,26 +62,22 @@ fn the_first_create_is_read(rt: HostRuntime) -> Result<(), Fail> {
     Ok(())
 }
 
-/// The i-th batch that is read.
-fn whole(alloc: Global, i: u8) -> Mem<Vec<u8>> {
-    let mut clean = DELTA;
-    clean[0] = 2;
-    match i {
-        0 => joined(alloc, 45, 1, 0, &[&FIRST_CREATE[32..]]),
-        1 => joined(alloc, 49, 1, 0, &[&RENAME]),
-        2 => joined(alloc, 161, 3, 1, &[&WRITE, &DELTA, &CUT, &SYNC]),
-        3 => joined(alloc, 103, 1, 1, &[&CLEAN, &clean]),
-        _ => joined(alloc, 104, 8, 0, &[SYNC.as_slice(); 8]),
-    }
-}
-
 #[test]
 fn batches_are_read_and_written(rt: HostRuntime) -> Result<(), Fail> {
-    for i in 0..5 {
-        let bytes = whole(rt.alloc(), i)?;
-        let (written, len) = read_and_written(rt.alloc(), &bytes)?.ok_or("a batch")?;
-        assert_eq!(rt; written.as_slice(), bytes.as_slice(), "batch {i}");
-        assert_eq!(rt; len as usize, bytes.len(), "batch {i}");
+    let alloc = rt.alloc();
+    let mut clean = DELTA;
+    clean[0] = 2;
+    let rows = [
+        joined(alloc, 45, 1, 0, &[&FIRST_CREATE[32..]])?,
+        joined(alloc, 49, 1, 0, &[&RENAME])?,
+        joined(alloc, 161, 3, 1, &[&WRITE, &DELTA, &CUT, &SYNC])?,
+        joined(alloc, 103, 1, 1, &[&CLEAN, &clean])?,
+        joined(alloc, 104, 8, 0, &[SYNC.as_slice(); 8])?,
+    ];
+    for (i, bytes) in rows.iter().enumerate() {
+        let (written, len) = read_and_written(alloc, bytes)?.ok_or("a batch")?;
+        assert_eq!(rt; written.as_slice(), bytes.as_slice(), "row {i}");
+        assert_eq!(rt; len as usize, bytes.len(), "row {i}");
     }
     Ok(())
 }
@@ -118,41 +114,31 @@ fn near_misses_are_no_batches(rt: HostRuntime) -> Result<(), Fail> {
     Ok(())
 }
 
-/// The i-th row of bytes that are no batch, though its parts and its length are right.
-fn unfit(alloc: Global, i: u8) -> Mem<Vec<u8>> {
-    let mut delta = DELTA;
-    match i {
-        0 => joined(alloc, 70, 1, 0, &[&CUT, &SYNC]),
-        1 => joined(alloc, 113, 9, 0, &[SYNC.as_slice(); 9]),
-        2 => {
-            let mut twice = CUT;
-            twice[28] = 2;
-            joined(alloc, 177, 1, 2, &[&twice, &DELTA, &DELTA])
-        }
-        3 => joined(alloc, 58, 2, 0, &[&RENAME, &SYNC]),
-        4 => {
-            delta[4] = 2;
-            joined(alloc, 123, 1, 1, &[&WRITE, &delta])
-        }
-        5 => {
-            delta[12] = 2;
-            joined(alloc, 123, 1, 1, &[&WRITE, &delta])
-        }
-        6 => joined(alloc, 103, 1, 1, &[&CLEAN, &DELTA]),
-        _ => {
-            let mut called = CLEAN;
-            called[8] = 1;
-            delta[0] = 2;
-            joined(alloc, 103, 1, 1, &[&called, &delta])
-        }
-    }
-}
-
 #[test]
 fn operations_that_do_not_fit_are_no_batches(rt: HostRuntime) -> Result<(), Fail> {
-    for i in 0..8 {
-        let bytes = unfit(rt.alloc(), i)?;
-        assert!(rt; Batch::read(rt.alloc(), &bytes)?.is_none(), "row {i}");
+    let alloc = rt.alloc();
+    let mut other = DELTA;
+    other[4] = 2;
+    let mut late = DELTA;
+    late[12] = 2;
+    let mut clean = DELTA;
+    clean[0] = 2;
+    let mut called = CLEAN;
+    called[8] = 1;
+    let mut twice = CUT;
+    twice[28] = 2;
+    let rows = [
+        joined(alloc, 70, 1, 0, &[&CUT, &SYNC])?,
+        joined(alloc, 113, 9, 0, &[SYNC.as_slice(); 9])?,
+        joined(alloc, 177, 1, 2, &[&twice, &DELTA, &DELTA])?,
+        joined(alloc, 58, 2, 0, &[&RENAME, &SYNC])?,
+        joined(alloc, 123, 1, 1, &[&WRITE, &other])?,
+        joined(alloc, 123, 1, 1, &[&WRITE, &late])?,
+        joined(alloc, 103, 1, 1, &[&CLEAN, &DELTA])?,
+        joined(alloc, 103, 1, 1, &[&called, &clean])?,
+    ];
+    for (i, bytes) in rows.iter().enumerate() {
+        assert!(rt; Batch::read(alloc, bytes)?.is_none(), "row {i}");
     }
     Ok(())
 }

@@ -38,34 +38,29 @@ fn store(blocks: &mut Blocks, alloc: Global, ptrs: &mut Vec<Ptr>, byte: u8, len:
     Ok(())
 }
 
-/// Puts two blocks at once, and tells their addresses.
-fn put_two(blocks: &mut Blocks, alloc: Global, first: usize, second: usize) -> Mem<[Option<Ptr>; 3]>
-    requires some { 1 ≤ first }
-    requires fits { first ≤ blocks.old.block }
-    requires some_more { 1 ≤ second }
-    requires both_fit { second ≤ blocks.old.block }
-    ensures { blocks.new.block ≡ blocks.old.block }
-{
-    let two = [block(alloc, 1, first)?, block(alloc, 2, second)?];
-    let put = blocks.put(alloc, &two)?;
-    Ok([0, 1, 2].map(|i| put.get(i).copied()))
-}
-
 #[test]
 fn blocks_follow_each_other(rt: HostRuntime) -> Result<(), Fail> {
     let geo = Geometry::new(3, 1, 256, 64, 8)?;
     let mut blocks = Blocks::new(rt.alloc(), &geo)?;
-    let put = [
-        put_two(&mut blocks, rt.alloc(), 64, 5)?,
-        put_two(&mut blocks, rt.alloc(), 1, 60)?,
-        put_two(&mut blocks, rt.alloc(), 2, 64)?,
+    let first = [block(rt.alloc(), 1, 64)?, block(rt.alloc(), 2, 5)?];
+    let put = blocks.put(rt.alloc(), &first)?;
+    assert_eq!(rt; put.slice(), [ptr(0, 0, 64), ptr(0, 64, 5)].as_slice());
+    let second = [
+        block(rt.alloc(), 3, 1)?,
+        block(rt.alloc(), 4, 60)?,
+        block(rt.alloc(), 5, 2)?,
+        block(rt.alloc(), 6, 64)?,
+        block(rt.alloc(), 7, 33)?,
     ];
+    let put = blocks.put(rt.alloc(), &second)?;
     let ptrs = [
-        [Some(ptr(0, 0, 64)), Some(ptr(0, 64, 5)), None],
-        [Some(ptr(0, 69, 1)), Some(ptr(0, 70, 60)), None],
-        [Some(ptr(0, 130, 2)), Some(ptr(0, 132, 64)), None],
+        ptr(0, 69, 1),
+        ptr(0, 70, 60),
+        ptr(0, 130, 2),
+        ptr(0, 132, 64),
+        ptr(0, 196, 33),
     ];
-    assert_eq!(rt; put, ptrs);
+    assert_eq!(rt; put.slice(), ptrs.as_slice());
     blocks_stay();
     Ok(())
 }

@@ -3,7 +3,6 @@ use Rattle.std.proofs.Common.{◌≡◌, ℕ, Bool, true, false, List, [], ◌�
 use Rattle.std.specs.List.{AllByRecursion, list_any, starts_with}
 use Rattle.std.proofs.lemmas.Cmp.{nat_list_eq_equiv}
 use Rattle.std.specs.List.Sorted.{IsStrictlySortedBy}
-use Rattle.std.specs.declared.vec.Vec.{Vec}
 use Rattle.std.specs.declared.cmp.Ordering.TheVariants.{Less}
 use Rattle.std.specs.Ordering.{nat_cmp, is_le}
 use Rattle.std.specs.Cmp.Lexicographic.{slice_cmp}
@@ -11,17 +10,15 @@ use Rattle.std.specs.Map.{keys_of}
 use Rattle.std.proofs.lemmas.Bool.{cases_Bool, false≢true}
 use Rattle.std.proofs.lemmas.Map.Keys.{sorted_head, sorted_tail}
 use Rattle.zb_types.specs.Names.{Entry}
-use Rattle.zb_names.specs.declared.entries.Kept.{Kept}
-use Rattle.zb_names.specs.Shown.{shown, begins_with}
-use Rattle.zb_names.specs.Listing.{from_front}
+use Rattle.zb_names.specs.Shown.{begins_with}
+use Rattle.zb_names.specs.Placing.{from_start}
 use Rattle.zb_names.proofs.Below.{front_le, past_front}
-use Rattle.zb_names.specs.Sound.{key_cmp}
 
-pub from_front-kept : {Z : Type 0} (front : Vec ℕ Z) (e : Vec ℕ Z × Kept) (es : List (Vec ℕ Z × Kept)) → is_le (key_cmp front e.0) ≡ true → from_front front (e ∷ es) ≡ e ∷ from_front front es
-from_front-kept front e es le = rw le refl
+pub from_start-kept : (front : List ℕ) (e : List ℕ × Entry) (es : List (List ℕ × Entry)) → is_le (slice_cmp nat_cmp front e.0) ≡ true → from_start front (e ∷ es) ≡ e ∷ from_start front es
+from_start-kept front e es le = rw le refl
 
-pub from_front-left : {Z : Type 0} (front : Vec ℕ Z) (e : Vec ℕ Z × Kept) (es : List (Vec ℕ Z × Kept)) → is_le (key_cmp front e.0) ≡ false → from_front front (e ∷ es) ≡ from_front front es
-from_front-left front e es le = rw le refl
+pub from_start-left : (front : List ℕ) (e : List ℕ × Entry) (es : List (List ℕ × Entry)) → is_le (slice_cmp nat_cmp front e.0) ≡ false → from_start front (e ∷ es) ≡ from_start front es
+from_start-left front e es le = rw le refl
 
 -- what stands before the front doesn't begin with it
 pub before_front : (front path : List ℕ) → is_le (slice_cmp nat_cmp front path) ≡ false → begins_with front path ≡ false
@@ -30,42 +27,42 @@ before_front front path before = elim (cases_Bool (begins_with front path)) [
   | inr other ↦ other
 ]
 
-module _ {Z : Type 0} (front : Vec ℕ Z) where
-  -- whether a shown path begins with the front
+module _ (front : List ℕ) where
+  -- whether a path begins with the front
   abbrev pub begins : List ℕ × Entry → Bool
-  begins e = begins_with front.items e.0
+  begins e = begins_with front e.0
 
   -- behind a path from the front on that doesn't begin with the front, none does
-  pub none_behind : (key : Vec ℕ Z) (es : List (Vec ℕ Z × Kept)) → is_le (key_cmp front key) ≡ true → begins_with front.items key.items ≡ false → AllByRecursion (λ k. key_cmp key k ≡ Less) (keys_of es)
-      → AllByRecursion (λ e. begins_with front.items e.0.items ≡ false) es
+  pub none_behind : (key : List ℕ) (es : List (List ℕ × Entry)) → is_le (slice_cmp nat_cmp front key) ≡ true → begins_with front key ≡ false → AllByRecursion (λ k. slice_cmp nat_cmp key k ≡ Less) (keys_of es)
+      → AllByRecursion (λ e. begins_with front e.0 ≡ false) es
   none_behind key [] le other behind = tt
-  none_behind key (e ∷ es) le other behind = (past_front front.items key.items e.0.items le other behind.0, none_behind key es le other behind.1)
+  none_behind key (e ∷ es) le other behind = (past_front front key e.0 le other behind.0, none_behind key es le other behind.1)
 
-  pub list_any-none : (es : List (Vec ℕ Z × Kept)) → AllByRecursion (λ e. begins_with front.items e.0.items ≡ false) es → list_any begins (shown es) ≡ false
+  pub list_any-none : (es : List (List ℕ × Entry)) → AllByRecursion (λ e. begins_with front e.0 ≡ false) es → list_any begins es ≡ false
   list_any-none [] none = refl
   list_any-none (e ∷ es) none = rw none.0 (list_any-none es none.1)
 
-  pub any_from_none : (es : List (Vec ℕ Z × Kept)) → from_front front es ≡ [] → list_any begins (shown es) ≡ false
+  pub any_from_none : (es : List (List ℕ × Entry)) → from_start front es ≡ [] → list_any begins es ≡ false
   any_from_none [] empty = refl
-  any_from_none (e ∷ es) empty = elim (cases_Bool (is_le (key_cmp front e.0))) [
-    | inl le ↦ let some : e ∷ from_front front es ≡ [] = sym (from_front-kept front e es le) ∙ empty in absurd cc
-    | inr before ↦ rw (before_front front.items e.0.items before) (any_from_none es (sym (from_front-left front e es before) ∙ empty))
+  any_from_none (e ∷ es) empty = elim (cases_Bool (is_le (slice_cmp nat_cmp front e.0))) [
+    | inl le ↦ let some : e ∷ from_start front es ≡ [] = sym (from_start-kept front e es le) ∙ empty in absurd cc
+    | inr before ↦ rw (before_front front e.0 before) (any_from_none es (sym (from_start-left front e es before) ∙ empty))
   ]
 
   -- the first from the front on tells whether any path begins with the front
-  pub any_from_first : (es : List (Vec ℕ Z × Kept)) (first : Vec ℕ Z × Kept) (more : List (Vec ℕ Z × Kept)) → IsStrictlySortedBy key_cmp (keys_of es) → from_front front es ≡ first ∷ more
-      → list_any begins (shown es) ≡ begins_with front.items first.0.items
+  pub any_from_first : (es : List (List ℕ × Entry)) (first : List ℕ × Entry) (more : List (List ℕ × Entry)) → IsStrictlySortedBy (slice_cmp nat_cmp) (keys_of es) → from_start front es ≡ first ∷ more
+      → list_any begins es ≡ begins_with front first.0
   any_from_first [] first more rising split = absurd cc
-  any_from_first (e ∷ es) first more rising split = elim (cases_Bool (is_le (key_cmp front e.0))) [
+  any_from_first (e ∷ es) first more rising split = elim (cases_Bool (is_le (slice_cmp nat_cmp front e.0))) [
     | inl le ↦
-        let both : e ∷ from_front front es ≡ first ∷ more = sym (from_front-kept front e es le) ∙ split in
+        let both : e ∷ from_start front es ≡ first ∷ more = sym (from_start-kept front e es le) ∙ split in
         let same : e ≡ first = cc in
-        let here : list_any begins (shown (e ∷ es)) ≡ begins_with front.items e.0.items = elim (cases_Bool (begins_with front.items e.0.items)) [
+        let here : list_any begins ((e ∷ es)) ≡ begins_with front e.0 = elim (cases_Bool (begins_with front e.0)) [
           | inl begun ↦ rw begun refl
-          | inr other ↦ rw other (list_any-none es (none_behind e.0 es le other (sorted_head key_cmp e.0 (keys_of es) rising)))
+          | inr other ↦ rw other (list_any-none es (none_behind e.0 es le other (sorted_head (slice_cmp nat_cmp) e.0 (keys_of es) rising)))
         ] in
-        here ∙ ap (λ (f : Vec ℕ Z × Kept). begins_with front.items f.0.items) same
-    | inr before ↦ rw (before_front front.items e.0.items before) (any_from_first es first more (sorted_tail key_cmp e.0 (keys_of es) rising) (sym (from_front-left front e es before) ∙ split))
+        here ∙ ap (λ (f : List ℕ × Entry). begins_with front f.0) same
+    | inr before ↦ rw (before_front front e.0 before) (any_from_first es first more (sorted_tail (slice_cmp nat_cmp) e.0 (keys_of es) rising) (sym (from_start-left front e es before) ∙ split))
   ]
 
 -- the test by `starts_with` is that of the definition

@@ -8,7 +8,9 @@ use Rattle.std.specs.Str.{bytes_eq}
 use Rattle.std.proofs.lemmas.Bool.{and_parts, false≢true}
 use Rattle.std.proofs.lemmas.List.{take_more, length-take-le}
 use Rattle.std.proofs.lemmas.Bool.Decides.{nat_tests}
-use Rattle.zb_types.specs.Names.{is_below}
+use Rattle.std.specs.List.{list_any}
+use Rattle.std.proofs.lemmas.List.{length-append}
+use Rattle.zb_types.specs.Names.{Entry, is_below}
 use Rattle.zb_names.specs.Shown.{begins_with}
 
 pub bytes_eq-cmp : (p q : List ℕ) → bytes_eq p q ≡ is_eq (slice_cmp nat_cmp p q)
@@ -59,3 +61,12 @@ is_below-at path other b within here =
 pub and_true : (b : Bool) → (b && true) ≡ b
 and_true true = refl
 and_true false = refl
+
+-- ---- fronts
+
+-- a path begins with the front of another where it is below it
+pub begins-below : (path other : List ℕ) → begins_with (path ++ 47 ∷ []) other ≡ is_below path other
+begins-below path other = ap (λ n. bytes_eq (take n other) (path ++ 47 ∷ [])) (length-append path (47 ∷ []))
+
+pub any_begins-below : (front path : List ℕ) (entries : List (List ℕ × Entry)) → front ≡ path ++ 47 ∷ [] → list_any (λ e. begins_with front e.0) entries ≡ list_any (λ e. is_below path e.0) entries
+any_begins-below front path entries same = ap (λ f. list_any (λ e. begins_with f e.0) entries) same ∙ (λ i. list_any (λ e. begins-below path e.0 i) entries)

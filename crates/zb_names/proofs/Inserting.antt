@@ -12,9 +12,9 @@ use Rattle.std.proofs.lemmas.Cmp.{nat_list_cmp_total}
 use Rattle.std.proofs.lemmas.Bool.{cases_Bool, or_parts, false≢true}
 use Rattle.std.proofs.lemmas.Slice.Eq.{bytes_eq-Decides}
 use Rattle.zb_types.specs.Names.{Entry, find, has, with_entry, with_entries}
-use Rattle.zb_names.specs.Moving.{AreNew}
+use Rattle.zb_names.specs.Changing.{AreNew}
 use Rattle.zb_names.proofs.Below.{bytes_eq-cmp}
-use Rattle.zb_names.proofs.Kept.{less_back}
+use Rattle.zb_names.proofs.Finding.{less_back}
 use Rattle.zb_names.proofs.Trees.{find-with_entry_other}
 
 -- the first of two, if it is there

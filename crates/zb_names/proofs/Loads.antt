@@ -18,7 +18,7 @@ use Rattle.zb_names.specs.Sound.{IsTree, has_number}
 use Rattle.zb_names.specs.Loading.{paths_of, rise}
 use Rattle.zb_names.proofs.Below.{bytes_eq-cmp}
 use Rattle.zb_names.proofs.Inserting.{is_less, all_behind}
-use Rattle.zb_names.proofs.Kept.{less_back}
+use Rattle.zb_names.proofs.Finding.{less_back}
 
 pub sorted_from_rise : (paths : List (List ℕ)) → rise paths ≡ true → IsStrictlySortedBy (slice_cmp nat_cmp) paths
 unfolding IsStrictlySortedBy

@@ -12,13 +12,13 @@ use Rattle.zb_types.specs.declared.calls.Refusal.TheVariants.{NoEntry, Exists, I
 use Rattle.zb_types.specs.Paths.{is_path}
 use Rattle.zb_types.specs.Names.{Entry, directory, numbered, find, has, is_dir, is_below, walk, first, when, max_path}
 use Rattle.zb_names.specs.Answers.{gets_too_long, refusal_of_move}
-use Rattle.zb_names.specs.Moving.{any_too_long}
+use Rattle.zb_names.specs.Changing.{any_too_long, below}
 use Rattle.zb_names.specs.Sound.{IsTree}
 use Rattle.zb_names.proofs.Fronts.{first_parts}
 use Rattle.zb_names.proofs.Refusals.{first_some, second_some, second_none, when_true, when_false, refusal_behind}
 use Rattle.zb_names.proofs.Renaming.{CanMove}
 use Rattle.zb_names.proofs.Trees.{nothing_below_file}
-use Rattle.zb_names.proofs.Within.{below, not_below_itself}
+use Rattle.zb_names.proofs.Within.{not_below_itself}
 
 -- only a directory has paths below it
 pub nothing_below_other : (path : List ℕ) (entry : Entry) (all : List (List ℕ × Entry)) → is_path path ≡ true → find path all ≡ Some entry → AllByRecursion (λ e. walk all e.0 ≡ None) all → is_dir (Some entry) ≡ false

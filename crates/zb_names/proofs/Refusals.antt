@@ -1,14 +1,13 @@
 -- The first of several refusals.
-use Rattle.std.proofs.Common.{◌≡◌, ℕ, Bool, true, false, not, List, [], ◌∷◌, Option, Some, None, is_some, option_map, Bor, refl, sym, ap, ◌∙◌}
-use Rattle.std.specs.Option.{option_copied}
+use Rattle.std.proofs.Common.{◌≡◌, ℕ, Bool, true, false, not, List, [], ◌∷◌, Option, Some, None, is_some, option_map, refl, sym, ap, ◌∙◌}
 use Rattle.std.proofs.lemmas.Bool.{false≢true}
 use Rattle.zb_types.specs.declared.calls.Refusal.{Refusal}
 use Rattle.zb_types.specs.declared.calls.Refusal.TheVariants.{NoEntry, Exists}
 use Rattle.zb_types.specs.Names.{Entry, first, when, walk, find, has}
-use Rattle.zb_names.specs.declared.entries.Kept.{Kept}
-use Rattle.zb_names.specs.Shown.{kept_as}
+use Rattle.zb_names.specs.declared.entries.Entry.{Entry as Given}
+use Rattle.zb_names.specs.Shown.{seen}
 use Rattle.zb_names.specs.Answers.{refusal_at}
-use Rattle.zb_names.proofs.Kept.{has-find}
+use Rattle.zb_names.proofs.Finding.{has-find}
 
 -- the first one refuses
 pub first_some : (w : Option Refusal) (rest : List (Option Refusal)) (why : Refusal) → w ≡ Some why → first (w ∷ rest) ≡ Some why
@@ -60,10 +59,10 @@ pub none_from_test : {A : Type 0} (o : Option A) → is_some o ≡ false → o �
 none_from_test None h = refl
 none_from_test (Some a) h = absurd (false≢true (sym h))
 
-is_some-seen : {A B : Type 0} (f : A → B) (o : Option (Bor A)) → is_some (option_map f (option_copied o)) ≡ is_some o
+is_some-seen : {A B : Type 0} (f : A → B) (o : Option A) → is_some (option_map f o) ≡ is_some o
 is_some-seen f None = refl
-is_some-seen f (Some r) = refl
+is_some-seen f (Some a) = refl
 
--- whether the map has the path, as its look-up says
-pub has_from_find : (path : List ℕ) (entries : List (List ℕ × Entry)) (o : Option (Bor Kept)) → option_map kept_as (option_copied o) ≡ find path entries → has path entries ≡ is_some o
-has_from_find path entries o found = has-find path entries ∙ ap is_some (sym found) ∙ is_some-seen kept_as o
+-- whether there is an entry, as a look-up says
+pub has_from_find : (path : List ℕ) (entries : List (List ℕ × Entry)) (o : Option Given) → option_map seen o ≡ find path entries → has path entries ≡ is_some o
+has_from_find path entries o found = has-find path entries ∙ ap is_some (sym found) ∙ is_some-seen seen o

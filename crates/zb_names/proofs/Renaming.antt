@@ -10,18 +10,16 @@ use Rattle.std.specs.Str.{bytes_eq}
 use Rattle.std.specs.Map.{keys_of}
 use Rattle.std.proofs.lemmas.Cmp.{tied_itself, nat_list_cmp_total}
 use Rattle.std.proofs.lemmas.List.{append-nil, append_assoc, append_cancel_left, length-append}
-use Rattle.std.proofs.lemmas.Bool.{cases_Bool, or_parts, or_left, or_right, or_from, and_left, false≢true, ltb-false}
+use Rattle.std.proofs.lemmas.Bool.{cases_Bool, or_parts, or_left, or_right, or_from, false≢true, ltb-false}
 use Rattle.std.proofs.lemmas.Slice.Eq.{bytes_eq-Decides}
 use Rattle.std.proofs.Math.Seq.{drop-append_seam, drop-length}
 use Rattle.zb_types.specs.Paths.{is_path}
 use Rattle.zb_types.specs.Names.{Entry, find, has, is_dir, is_below, is_within, walk, moved, max_path, with_entries, renamed}
-use Rattle.zb_names.specs.declared.moving.Move.{Move}
 use Rattle.zb_names.specs.Sound.{IsTree, has_number}
-use Rattle.zb_names.specs.Moving.{AreNew, news_of, fresh_of, is_among, lacking, within, relocated}
+use Rattle.zb_names.specs.Changing.{AreNew, within, relocated}
 use Rattle.zb_names.proofs.Fronts.{hangs_from_walk, walk_from_hanging, split_below, below_split}
 use Rattle.zb_names.proofs.Inserting.{or_else, bytes_eq_self, has-with_entries, find-with_entries}
-use Rattle.zb_names.proofs.Kept.{has-find}
-use Rattle.zb_names.proofs.Lacking.{lacking-absent, lacking-same, lacking-with_entries, is_among-within}
+use Rattle.zb_names.proofs.Finding.{has-find}
 use Rattle.zb_names.proofs.Lying.{lies_within, within_itself, within_longer, within_below, fronts_compare}
 use Rattle.zb_names.proofs.NameParts.{is_path-longer}
 use Rattle.zb_names.proofs.Trees.{all-with_entry}
@@ -209,54 +207,8 @@ module _ (from to : List ℕ) (entries : List (List ℕ × Entry)) (can : CanMov
         rw inside (absent, are_new base es none sorted.1)
   ]
 
-  pub fresh_new : AreNew fresh entries
-  fresh_new = are_new entries entries absent_at_new can.rising
-
   pub fresh_new_rest : AreNew fresh rest
   fresh_new_rest = are_new rest entries (λ path inside. has-filter path (λ e. not (is_within from e.0)) entries (absent_at_new path inside)) can.rising
-
-  -- ---- the old paths taken out, and the new ones
-
-  fresh_apart : (es : List (List ℕ × Entry)) → AllByRecursion (λ e. is_among (keys_of (within from entries)) e.0 ≡ false) (relocated (length from) to (within from es))
-  fresh_apart [] = tt
-  fresh_apart (e ∷ es) = elim (cases_Bool (is_within from e.0)) as (λ _. AllByRecursion (λ d. is_among (keys_of (within from entries)) d.0 ≡ false) (relocated (length from) to (within from (e ∷ es)))) [
-    | inr outside ↦ rw outside (fresh_apart es)
-    | inl inside ↦ rw inside (is_among-within from (there e.0) entries ∙ and_left (is_within from (there e.0)) (has (there e.0) entries) (not_at_both (there e.0) (there_within e.0 inside)), fresh_apart es)
-  ]
-
-  olds_same : (es : List (List ℕ × Entry)) → AllByRecursion (λ e. has e.0 entries ≡ true) es → AllByRecursion (λ e. is_among (keys_of (within from entries)) e.0 ≡ is_within from e.0) es
-  olds_same [] all = tt
-  olds_same (e ∷ es) all = (is_among-within from e.0 entries ∙ ap (λ b. is_within from e.0 && b) all.0 ∙ both (is_within from e.0), olds_same es all.1)
-    where
-      both : (b : Bool) → (b && true) ≡ b
-      both true = refl
-      both false = refl
-
-  -- putting the fresh entries in and taking the old ones out renames
-  pub renamed_by_moves : lacking (keys_of (within from entries)) (with_entries fresh entries) ≡ renamed from to entries
-  renamed_by_moves =
-      lacking-with_entries (keys_of (within from entries)) fresh entries (fresh_apart entries) fresh_new can.rising
-      ∙ ap (with_entries fresh) (lacking-same (keys_of (within from entries)) (is_within from) entries (olds_same entries (all_there entries)))
-
-  not_fresh : (path : List ℕ) (es : List (List ℕ × Entry)) → is_within to path ≡ false → is_among (keys_of (relocated (length from) to (within from es))) path ≡ false
-  not_fresh path [] outside = refl
-  not_fresh path (e ∷ es) outside = elim (cases_Bool (is_within from e.0)) as (λ _. is_among (keys_of (relocated (length from) to (within from (e ∷ es)))) path ≡ false) [
-    | inr other ↦ rw other (not_fresh path es outside)
-    | inl inside ↦
-        let apart : bytes_eq (there e.0) path ≡ false = elim (cases_Bool (bytes_eq (there e.0) path)) [
-          | inl same ↦ absurd (false≢true (sym outside ∙ ap (is_within to) (sym ((bytes_eq-Decides (there e.0) path).0 same)) ∙ there_within e.0 inside))
-          | inr different ↦ different
-        ] in
-        rw inside (or_from (bytes_eq (there e.0) path) (is_among (keys_of (relocated (length from) to (within from es))) path) apart (not_fresh path es outside))
-  ]
-
-  all_not_fresh : (es : List (List ℕ × Entry)) → AllByRecursion (λ e. is_within to e.0 ≡ false) es → AllByRecursion (λ e. is_among (keys_of fresh) e.0 ≡ false) es
-  all_not_fresh [] all = tt
-  all_not_fresh (e ∷ es) all = (not_fresh e.0 entries all.0, all_not_fresh es all.1)
-
-  -- the entries that were there are at none of the new paths
-  pub entries_stay : lacking (keys_of fresh) entries ≡ entries
-  entries_stay = lacking-absent (keys_of fresh) entries (all_not_fresh entries entries_apart)
 
   -- ---- the renamed entries
 
@@ -395,7 +347,7 @@ module _ (from to : List ℕ) (entries : List (List ℕ × Entry)) (can : CanMov
             ap (λ r. is_path (to ++ r)) more.1 ∙ is_path-longer to from more.0 can.is_to (sym (ap is_path old) ∙ is) room
       ]
 
-  fresh_paths : (es : List (List ℕ × Entry)) → AllByRecursion (λ e. is_path e.0 ≡ true) es → list_any (λ e. is_within from e.0 && nat_lt max_path (length (moved from to e.0))) es ≡ false
+  pub fresh_paths : (es : List (List ℕ × Entry)) → AllByRecursion (λ e. is_path e.0 ≡ true) es → list_any (λ e. is_within from e.0 && nat_lt max_path (length (moved from to e.0))) es ≡ false
       → AllByRecursion (λ e. is_path e.0 ≡ true) (relocated (length from) to (within from es))
   fresh_paths [] all short = tt
   fresh_paths (e ∷ es) all short =
@@ -424,8 +376,3 @@ module _ (from to : List ℕ) (entries : List (List ℕ × Entry)) (can : CanMov
     paths = all_with_entries (λ e. is_path e.0 ≡ true) fresh rest (fresh_paths entries can.paths can.short) (all_filter (λ e. is_path e.0 ≡ true) (λ e. not (is_within from e.0)) entries can.paths);
     hanging = all_with_entries (λ e. walk result e.0 ≡ None) fresh rest (fresh_hanging entries (path_length from is_from) can.hanging) (rest_hanging entries can.hanging);
   }
-
--- the new paths of moves are those of the fresh entries
-pub news_of-fresh : (moves : List Move) → news_of moves ≡ keys_of (fresh_of moves)
-news_of-fresh [] = refl
-news_of-fresh (m ∷ moves) = ap (λ more. m.new.items ∷ more) (news_of-fresh moves)

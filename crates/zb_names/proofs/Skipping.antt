@@ -2,7 +2,6 @@
 use Rattle.std.proofs.Common.{◌≡◌, ℕ, zero, suc, ◌+◌, ◌-◌, ◌<◌, ◌≤◌, Bool, true, false, not, ◌&&◌, ◌||◌, eqb, List, [], ◌∷◌, ◌++◌, length, get_or, take, drop, refl, sym, ap, subst, ◌∙◌, inl, inr, arith}
 use Rattle.std.specs.List.{AllByRecursion}
 use Rattle.std.specs.List.Sorted.{IsStrictlySortedBy}
-use Rattle.std.specs.declared.vec.Vec.{Vec}
 use Rattle.std.specs.declared.cmp.Ordering.TheVariants.{Less}
 use Rattle.std.specs.Ordering.{nat_cmp, is_le}
 use Rattle.std.specs.Cmp.Lexicographic.{slice_cmp}
@@ -13,15 +12,14 @@ use Rattle.std.proofs.lemmas.List.{length-drop, length-take-le}
 use Rattle.std.proofs.lemmas.Map.Keys.{sorted_head, sorted_tail}
 use Rattle.zb_types.specs.Paths.{is_path}
 use Rattle.zb_types.specs.Names.{Entry}
-use Rattle.zb_names.specs.declared.entries.Kept.{Kept}
-use Rattle.zb_names.specs.Shown.{kept_as, shown, begins_with}
-use Rattle.zb_names.specs.Listing.{IsFront, IsStartBehind, has_slash, from_front, name_of, names_behind}
-use Rattle.zb_names.specs.Sound.{key_cmp}
-use Rattle.zb_names.proofs.Behind.{from_front-kept, from_front-left, none_behind}
+use Rattle.zb_names.specs.Shown.{begins_with}
+use Rattle.zb_names.specs.Listing.{IsFront, IsStartBehind, has_slash, name_of, names_behind}
+use Rattle.zb_names.specs.Placing.{from_start}
+use Rattle.zb_names.proofs.Behind.{from_start-kept, from_start-left, none_behind}
 use Rattle.zb_names.proofs.Below.{front_le}
 use Rattle.zb_names.proofs.Children.{names_behind-cons, names_behind-none, names_behind-from, le-from, rising-from, All-from}
 use Rattle.zb_names.proofs.NameParts.{slash_no_name}
-use Rattle.zb_names.proofs.Kept.{less_back}
+use Rattle.zb_names.proofs.Finding.{less_back}
 
 -- ---- the order of paths
 
@@ -99,52 +97,52 @@ begins_child (x ∷ p) more = and_from (eqb x x) (begins_with (p ++ 47 ∷ []) (
 
 -- ---- the entries from a start on, and from a later one
 
-module _ {Z : Type 0} (start next : Vec ℕ Z) (first : Vec ℕ Z × Kept) (up : is_le (key_cmp start next) ≡ true) (less : key_cmp first.0 next ≡ Less) where
-  next_after : is_le (key_cmp next first.0) ≡ false
-  next_after = ap is_le (less_back first.0.items next.items Less less)
+module _ (start next : List ℕ) (first : List ℕ × Entry) (up : is_le (slice_cmp nat_cmp start next) ≡ true) (less : slice_cmp nat_cmp first.0 next ≡ Less) where
+  next_after : is_le (slice_cmp nat_cmp next first.0) ≡ false
+  next_after = ap is_le (less_back first.0 next Less less)
 
   -- what stands before the start stands before the next one
-  before_both : (k : Vec ℕ Z) → is_le (key_cmp start k) ≡ false → is_le (key_cmp next k) ≡ false
-  before_both k before = elim (cases_Bool (is_le (key_cmp next k))) [
-    | inl after ↦ absurd (false≢true (sym before ∙ le_trans start.items next.items k.items up after))
+  before_both : (k : List ℕ) → is_le (slice_cmp nat_cmp start k) ≡ false → is_le (slice_cmp nat_cmp next k) ≡ false
+  before_both k before = elim (cases_Bool (is_le (slice_cmp nat_cmp next k))) [
+    | inl after ↦ absurd (false≢true (sym before ∙ le_trans start next k up after))
     | inr apart ↦ apart
   ]
 
-  fewer : (es : List (Vec ℕ Z × Kept)) → length (from_front next es) ≤ length (from_front start es)
+  fewer : (es : List (List ℕ × Entry)) → length (from_start next es) ≤ length (from_start start es)
   fewer [] = omega arith
-  fewer (e ∷ es) = elim (cases_Bool (is_le (key_cmp next e.0))) [
-    | inl after ↦ rw (from_front-kept next e es after, from_front-kept start e es (le_trans start.items next.items e.0.items up after)) (omega (arith, fewer es))
-    | inr before ↦ elim (cases_Bool (is_le (key_cmp start e.0))) [
-      | inl le ↦ rw (from_front-left next e es before, from_front-kept start e es le) (omega (arith, fewer es))
-      | inr apart ↦ rw (from_front-left next e es before, from_front-left start e es apart) (fewer es)
+  fewer (e ∷ es) = elim (cases_Bool (is_le (slice_cmp nat_cmp next e.0))) [
+    | inl after ↦ rw (from_start-kept next e es after, from_start-kept start e es (le_trans start next e.0 up after)) (omega (arith, fewer es))
+    | inr before ↦ elim (cases_Bool (is_le (slice_cmp nat_cmp start e.0))) [
+      | inl le ↦ rw (from_start-left next e es before, from_start-kept start e es le) (omega (arith, fewer es))
+      | inr apart ↦ rw (from_start-left next e es before, from_start-left start e es apart) (fewer es)
     ]
   ]
 
   -- going on is going further
-  pub shorter : (es more : List (Vec ℕ Z × Kept)) → from_front start es ≡ first ∷ more → length (from_front next es) < length (from_front start es)
+  pub shorter : (es more : List (List ℕ × Entry)) → from_start start es ≡ first ∷ more → length (from_start next es) < length (from_start start es)
   shorter [] more split = absurd cc
-  shorter (e ∷ es) more split = elim (cases_Bool (is_le (key_cmp start e.0))) [
+  shorter (e ∷ es) more split = elim (cases_Bool (is_le (slice_cmp nat_cmp start e.0))) [
     | inl le ↦
-        let both : e ∷ from_front start es ≡ first ∷ more = sym (from_front-kept start e es le) ∙ split in
+        let both : e ∷ from_start start es ≡ first ∷ more = sym (from_start-kept start e es le) ∙ split in
         let same : first ≡ e = cc in
-        rw (from_front-left next e es (subst (λ (f : Vec ℕ Z × Kept). is_le (key_cmp next f.0) ≡ false) same next_after), from_front-kept start e es le) (omega (arith, fewer es))
-    | inr before ↦ rw (from_front-left next e es (before_both e.0 before), from_front-left start e es before) (shorter es more (sym (from_front-left start e es before) ∙ split))
+        rw (from_start-left next e es (subst (λ (f : List ℕ × Entry). is_le (slice_cmp nat_cmp next f.0) ≡ false) same next_after), from_start-kept start e es le) (omega (arith, fewer es))
+    | inr before ↦ rw (from_start-left next e es (before_both e.0 before), from_start-left start e es before) (shorter es more (sym (from_start-left start e es before) ∙ split))
   ]
 
   -- what comes from the start on comes from the first on
-  least : (es more : List (Vec ℕ Z × Kept)) → IsStrictlySortedBy key_cmp (keys_of es) → from_front start es ≡ first ∷ more
-      → AllByRecursion (λ e. is_le (key_cmp start e.0) ≡ true → is_le (key_cmp first.0 e.0) ≡ true) es
+  least : (es more : List (List ℕ × Entry)) → IsStrictlySortedBy (slice_cmp nat_cmp) (keys_of es) → from_start start es ≡ first ∷ more
+      → AllByRecursion (λ e. is_le (slice_cmp nat_cmp start e.0) ≡ true → is_le (slice_cmp nat_cmp first.0 e.0) ≡ true) es
   least [] more rising split = absurd cc
-  least (e ∷ es) more rising split = elim (cases_Bool (is_le (key_cmp start e.0))) [
+  least (e ∷ es) more rising split = elim (cases_Bool (is_le (slice_cmp nat_cmp start e.0))) [
     | inl le ↦
-        let both : e ∷ from_front start es ≡ first ∷ more = sym (from_front-kept start e es le) ∙ split in
+        let both : e ∷ from_start start es ≡ first ∷ more = sym (from_start-kept start e es le) ∙ split in
         let same : e ≡ first = cc in
-        subst (λ (f : Vec ℕ Z × Kept). AllByRecursion (λ d. is_le (key_cmp start d.0) ≡ true → is_le (key_cmp f.0 d.0) ≡ true) (e ∷ es)) same
-        ((λ _. le_refl e.0.items), all_less e.0 es (sorted_head key_cmp e.0 (keys_of es) rising))
-    | inr before ↦ ((λ le. absurd (false≢true (sym before ∙ le))), least es more (sorted_tail key_cmp e.0 (keys_of es) rising) (sym (from_front-left start e es before) ∙ split))
+        subst (λ (f : List ℕ × Entry). AllByRecursion (λ d. is_le (slice_cmp nat_cmp start d.0) ≡ true → is_le (slice_cmp nat_cmp f.0 d.0) ≡ true) (e ∷ es)) same
+        ((λ _. le_refl e.0), all_less e.0 es (sorted_head (slice_cmp nat_cmp) e.0 (keys_of es) rising))
+    | inr before ↦ ((λ le. absurd (false≢true (sym before ∙ le))), least es more (sorted_tail (slice_cmp nat_cmp) e.0 (keys_of es) rising) (sym (from_start-left start e es before) ∙ split))
   ]
     where
-      all_less : (key : Vec ℕ Z) (es : List (Vec ℕ Z × Kept)) → AllByRecursion (λ k. key_cmp key k ≡ Less) (keys_of es) → AllByRecursion (λ d. is_le (key_cmp start d.0) ≡ true → is_le (key_cmp key d.0) ≡ true) es
+      all_less : (key : List ℕ) (es : List (List ℕ × Entry)) → AllByRecursion (λ k. slice_cmp nat_cmp key k ≡ Less) (keys_of es) → AllByRecursion (λ d. is_le (slice_cmp nat_cmp start d.0) ≡ true → is_le (slice_cmp nat_cmp key d.0) ≡ true) es
       all_less key [] all = tt
       all_less key (d ∷ es) all = ((λ _. ap is_le all.0), all_less key es all.1)
 
@@ -152,17 +150,17 @@ module _ {Z : Type 0} (start next : Vec ℕ Z) (first : Vec ℕ Z × Kept) (up :
   abbrev named : List ℕ → List ℕ → Bool
   named front k = begins_with front k && not (has_slash (drop (length front) k))
 
-  pub skip : (front : List ℕ) → ((k : List ℕ) → is_le (slice_cmp nat_cmp first.0.items k) ≡ true → is_le (slice_cmp nat_cmp next.items k) ≡ false → named front k ≡ false)
-      → (es : List (Vec ℕ Z × Kept)) → AllByRecursion (λ e. is_le (key_cmp start e.0) ≡ true → is_le (key_cmp first.0 e.0) ≡ true) es
-      → names_behind front (shown (from_front start es)) ≡ names_behind front (shown (from_front next es))
+  pub skip : (front : List ℕ) → ((k : List ℕ) → is_le (slice_cmp nat_cmp first.0 k) ≡ true → is_le (slice_cmp nat_cmp next k) ≡ false → named front k ≡ false)
+      → (es : List (List ℕ × Entry)) → AllByRecursion (λ e. is_le (slice_cmp nat_cmp start e.0) ≡ true → is_le (slice_cmp nat_cmp first.0 e.0) ≡ true) es
+      → names_behind front ((from_start start es)) ≡ names_behind front ((from_start next es))
   skip front none [] h = refl
-  skip front none (e ∷ es) h = elim (cases_Bool (is_le (key_cmp next e.0))) [
+  skip front none (e ∷ es) h = elim (cases_Bool (is_le (slice_cmp nat_cmp next e.0))) [
     | inl after ↦
-        rw (from_front-kept next e es after, from_front-kept start e es (le_trans start.items next.items e.0.items up after))
-        (both (e.0.items, kept_as e.1) (shown (from_front start es)) (shown (from_front next es)) (skip front none es h.1))
-    | inr before ↦ elim (cases_Bool (is_le (key_cmp start e.0))) [
-      | inl le ↦ rw (from_front-left next e es before, from_front-kept start e es le) (rw (none e.0.items (h.0 le) before) (skip front none es h.1))
-      | inr apart ↦ rw (from_front-left next e es before, from_front-left start e es apart) (skip front none es h.1)
+        rw (from_start-kept next e es after, from_start-kept start e es (le_trans start next e.0 up after))
+        (both (e.0, e.1) ((from_start start es)) ((from_start next es)) (skip front none es h.1))
+    | inr before ↦ elim (cases_Bool (is_le (slice_cmp nat_cmp start e.0))) [
+      | inl le ↦ rw (from_start-left next e es before, from_start-kept start e es le) (rw (none e.0 (h.0 le) before) (skip front none es h.1))
+      | inr apart ↦ rw (from_start-left next e es before, from_start-left start e es apart) (skip front none es h.1)
     ]
   ]
     where
@@ -172,28 +170,28 @@ module _ {Z : Type 0} (start next : Vec ℕ Z) (first : Vec ℕ Z × Kept) (up :
         | inr other ↦ rw other same
       ]
 
-  all_from : (b : Vec ℕ Z) (es : List (Vec ℕ Z × Kept)) → AllByRecursion (λ e. is_le (key_cmp b e.0) ≡ true) es → from_front b es ≡ es
+  all_from : (b : List ℕ) (es : List (List ℕ × Entry)) → AllByRecursion (λ e. is_le (slice_cmp nat_cmp b e.0) ≡ true) es → from_start b es ≡ es
   all_from b [] all = refl
-  all_from b (e ∷ es) all = from_front-kept b e es all.0 ∙ ap (λ (more : List (Vec ℕ Z × Kept)). e ∷ more) (all_from b es all.1)
+  all_from b (e ∷ es) all = from_start-kept b e es all.0 ∙ ap (λ (more : List (List ℕ × Entry)). e ∷ more) (all_from b es all.1)
 
   -- where the next start is right behind the first, the others are left
-  pub rest_is : ((k : Vec ℕ Z) → key_cmp first.0 k ≡ Less → is_le (key_cmp next k) ≡ true) → (es more : List (Vec ℕ Z × Kept)) → IsStrictlySortedBy key_cmp (keys_of es) → from_front start es ≡ first ∷ more
-      → from_front next es ≡ more
+  pub rest_is : ((k : List ℕ) → slice_cmp nat_cmp first.0 k ≡ Less → is_le (slice_cmp nat_cmp next k) ≡ true) → (es more : List (List ℕ × Entry)) → IsStrictlySortedBy (slice_cmp nat_cmp) (keys_of es) → from_start start es ≡ first ∷ more
+      → from_start next es ≡ more
   rest_is right [] more rising split = absurd cc
-  rest_is right (e ∷ es) more rising split = elim (cases_Bool (is_le (key_cmp start e.0))) [
+  rest_is right (e ∷ es) more rising split = elim (cases_Bool (is_le (slice_cmp nat_cmp start e.0))) [
     | inl le ↦
-        let both : e ∷ from_front start es ≡ first ∷ more = sym (from_front-kept start e es le) ∙ split in
+        let both : e ∷ from_start start es ≡ first ∷ more = sym (from_start-kept start e es le) ∙ split in
         let same : first ≡ e = cc in
-        let rest : from_front start es ≡ more = cc in
-        let head = sorted_head key_cmp e.0 (keys_of es) rising in
-        let right_here = subst (λ (f : Vec ℕ Z × Kept). (k : Vec ℕ Z) → key_cmp f.0 k ≡ Less → is_le (key_cmp next k) ≡ true) same right in
-        from_front-left next e es (subst (λ (f : Vec ℕ Z × Kept). is_le (key_cmp next f.0) ≡ false) same next_after)
+        let rest : from_start start es ≡ more = cc in
+        let head = sorted_head (slice_cmp nat_cmp) e.0 (keys_of es) rising in
+        let right_here = subst (λ (f : List ℕ × Entry). (k : List ℕ) → slice_cmp nat_cmp f.0 k ≡ Less → is_le (slice_cmp nat_cmp next k) ≡ true) same right in
+        from_start-left next e es (subst (λ (f : List ℕ × Entry). is_le (slice_cmp nat_cmp next f.0) ≡ false) same next_after)
         ∙ all_from next es (each next e.0 es head right_here)
-        ∙ sym (all_from start es (each start e.0 es head (λ k lt. ap is_le (le_less start.items e.0.items k.items le lt)))) ∙ rest
-    | inr before ↦ from_front-left next e es (before_both e.0 before) ∙ rest_is right es more (sorted_tail key_cmp e.0 (keys_of es) rising) (sym (from_front-left start e es before) ∙ split)
+        ∙ sym (all_from start es (each start e.0 es head (λ k lt. ap is_le (le_less start e.0 k le lt)))) ∙ rest
+    | inr before ↦ from_start-left next e es (before_both e.0 before) ∙ rest_is right es more (sorted_tail (slice_cmp nat_cmp) e.0 (keys_of es) rising) (sym (from_start-left start e es before) ∙ split)
   ]
     where
-      each : (b key : Vec ℕ Z) (es : List (Vec ℕ Z × Kept)) → AllByRecursion (λ k. key_cmp key k ≡ Less) (keys_of es) → ((k : Vec ℕ Z) → key_cmp key k ≡ Less → is_le (key_cmp b k) ≡ true) → AllByRecursion (λ d. is_le (key_cmp b d.0) ≡ true) es
+      each : (b key : List ℕ) (es : List (List ℕ × Entry)) → AllByRecursion (λ k. slice_cmp nat_cmp key k ≡ Less) (keys_of es) → ((k : List ℕ) → slice_cmp nat_cmp key k ≡ Less → is_le (slice_cmp nat_cmp b k) ≡ true) → AllByRecursion (λ d. is_le (slice_cmp nat_cmp b d.0) ≡ true) es
       each b key [] all f = tt
       each b key (d ∷ es) all f = (f d.0 all.0, each b key es all.1 f)
 
@@ -231,36 +229,36 @@ goes_up n path start next le (inl child) = subst (λ (z : List ℕ). slice_cmp n
 goes_up n path start next le (inr below) =
     subst (λ (z : List ℕ). slice_cmp nat_cmp z next ≡ Less) (sym below.3) (subst (λ (z : List ℕ). slice_cmp nat_cmp (below.0 ++ 47 ∷ below.1) z ≡ Less) (sym below.4) (less_slash below.0 below.1))
 
-module _ {Z : Type 0} (front start next path : Vec ℕ Z) (kept : Kept) (es more : List (Vec ℕ Z × Kept)) (is_front : IsFront front.items) (is : is_path path.items ≡ true) (begins : begins_with front.items path.items ≡ true)
-    (rising : IsStrictlySortedBy key_cmp (keys_of es)) (split : from_front start es ≡ (path, kept) ∷ more) (behind : IsStartBehind (length front.items) path.items next.items) where
-  first_le : is_le (key_cmp start path) ≡ true
-  first_le = (subst (λ (z : List (Vec ℕ Z × Kept)). AllByRecursion (λ e. is_le (key_cmp start e.0) ≡ true) z) split (le-from start es)).0
+module _ (front start next path : List ℕ) (kept : Entry) (es more : List (List ℕ × Entry)) (is_front : IsFront front) (is : is_path path ≡ true) (begins : begins_with front path ≡ true)
+    (rising : IsStrictlySortedBy (slice_cmp nat_cmp) (keys_of es)) (split : from_start start es ≡ (path, kept) ∷ more) (behind : IsStartBehind (length front) path next) where
+  first_le : is_le (slice_cmp nat_cmp start path) ≡ true
+  first_le = (subst (λ (z : List (List ℕ × Entry)). AllByRecursion (λ e. is_le (slice_cmp nat_cmp start e.0) ≡ true) z) split (le-from start es)).0
 
-  after : key_cmp path next ≡ Less
-  after = goes_up (length front.items) path.items start.items next.items first_le behind
+  after : slice_cmp nat_cmp path next ≡ Less
+  after = goes_up (length front) path start next first_le behind
 
-  up : is_le (key_cmp start next) ≡ true
-  up = ap is_le (le_less start.items path.items next.items first_le after)
+  up : is_le (slice_cmp nat_cmp start next) ≡ true
+  up = ap is_le (le_less start path next first_le after)
 
-  pub further : length (from_front next es) < length (from_front start es)
+  pub further : length (from_start next es) < length (from_start start es)
   further = shorter start next (path, kept) up after es more split
 
-  pub names_on : names_behind front.items (shown (from_front start es)) ≡ name_of (drop (length front.items) path.items) ++ names_behind front.items (shown (from_front next es))
-  names_on = elim behind as (λ _. names_behind front.items (shown (from_front start es)) ≡ name_of (drop (length front.items) path.items) ++ names_behind front.items (shown (from_front next es))) [
+  pub names_on : names_behind front ((from_start start es)) ≡ name_of (drop (length front) path) ++ names_behind front ((from_start next es))
+  names_on = elim behind as (λ _. names_behind front ((from_start start es)) ≡ name_of (drop (length front) path) ++ names_behind front ((from_start next es))) [
     | inl child ↦
-        let right = λ (k : Vec ℕ Z) (lt : key_cmp path k ≡ Less). subst (λ (z : List ℕ). is_le (slice_cmp nat_cmp z k.items) ≡ true) (sym child.1) (le_next path.items k.items lt) in
-        ap (λ (z : List (Vec ℕ Z × Kept)). names_behind front.items (shown z)) split
-        ∙ names_behind-cons front.items path.items (kept_as kept) (shown more) is_front is begins
-        ∙ ap (λ (z : List (Vec ℕ Z × Kept)). name_of (drop (length front.items) path.items) ++ names_behind front.items (shown z)) (sym (rest_is start next (path, kept) up after right es more rising split))
+        let right = λ (k : List ℕ) (lt : slice_cmp nat_cmp path k ≡ Less). subst (λ (z : List ℕ). is_le (slice_cmp nat_cmp z k) ≡ true) (sym child.1) (le_next path k lt) in
+        ap (λ (z : List (List ℕ × Entry)). names_behind front z) split
+        ∙ names_behind-cons front path (kept) more is_front is begins
+        ∙ ap (λ (z : List (List ℕ × Entry)). name_of (drop (length front) path) ++ names_behind front z) (sym (rest_is start next (path, kept) up after right es more rising split))
     | inr below ↦
-        let slash : has_slash (drop (length front.items) path.items) ≡ true =
-        slash_behind (length front.items) below.0 path.items below.2 (subst (λ (z : List ℕ). begins_with (below.0 ++ 47 ∷ []) z ≡ true) (sym below.3) (begins_child below.0 below.1)) in
-        let no_name : name_of (drop (length front.items) path.items) ≡ [] = rw (slash_no_name (drop (length front.items) path.items) slash) refl in
-        let none = λ (k : List ℕ) (le : is_le (slice_cmp nat_cmp path.items k) ≡ true) (lt : is_le (slice_cmp nat_cmp next.items k) ≡ false).
+        let slash : has_slash (drop (length front) path) ≡ true =
+        slash_behind (length front) below.0 path below.2 (subst (λ (z : List ℕ). begins_with (below.0 ++ 47 ∷ []) z ≡ true) (sym below.3) (begins_child below.0 below.1)) in
+        let no_name : name_of (drop (length front) path) ≡ [] = rw (slash_no_name (drop (length front) path) slash) refl in
+        let none = λ (k : List ℕ) (le : is_le (slice_cmp nat_cmp path k) ≡ true) (lt : is_le (slice_cmp nat_cmp next k) ≡ false).
         let under : begins_with (below.0 ++ 47 ∷ []) k ≡ true = below_child below.0 below.1 k (subst (λ (z : List ℕ). is_le (slice_cmp nat_cmp z k) ≡ true) below.3 le) (subst (λ (z : List ℕ). is_le (slice_cmp nat_cmp z k) ≡ false) below.4 lt) in
-        and_right (begins_with front.items k) (not (has_slash (drop (length front.items) k))) (ap not (slash_behind (length front.items) below.0 k below.2 under)) in
-        skip start next (path, kept) up after front.items none es (least start next (path, kept) up after es more rising split)
-        ∙ ap (λ (z : List (List ℕ)). z ++ names_behind front.items (shown (from_front next es))) (sym no_name)
+        and_right (begins_with front k) (not (has_slash (drop (length front) k))) (ap not (slash_behind (length front) below.0 k below.2 under)) in
+        skip start next (path, kept) up after front none es (least start next (path, kept) up after es more rising split)
+        ∙ ap (λ (z : List (List ℕ)). z ++ names_behind front ((from_start next es))) (sym no_name)
   ]
 
 -- ---- where the next part starts
@@ -294,29 +292,29 @@ below_start n path text at is le lt slash =
 
 -- ---- a listing ends
 
-none_named : {Z : Type 0} (front start path : Vec ℕ Z) (kept : Kept) (es more : List (Vec ℕ Z × Kept)) → IsStrictlySortedBy key_cmp (keys_of es) → from_front start es ≡ (path, kept) ∷ more
-    → begins_with front.items start.items ≡ true → begins_with front.items path.items ≡ false → AllByRecursion (λ e. begins_with front.items e.0.items ≡ false) (from_front start es)
-none_named {Z} front start path kept es more rising split begun other =
-    let le = (subst (λ (z : List (Vec ℕ Z × Kept)). AllByRecursion (λ e. is_le (key_cmp start e.0) ≡ true) z) split (le-from start es)).0 in
-    let from = le_trans front.items start.items path.items (front_le front.items start.items begun) le in
-    let sorted = subst (λ (z : List (Vec ℕ Z × Kept)). IsStrictlySortedBy key_cmp (keys_of z)) split (rising-from start es rising) in
-    subst (λ (z : List (Vec ℕ Z × Kept)). AllByRecursion (λ e. begins_with front.items e.0.items ≡ false) z) (sym split)
-    (other, none_behind front path more from other (sorted_head key_cmp path (keys_of more) sorted))
+none_named : (front start path : List ℕ) (kept : Entry) (es more : List (List ℕ × Entry)) → IsStrictlySortedBy (slice_cmp nat_cmp) (keys_of es) → from_start start es ≡ (path, kept) ∷ more
+    → begins_with front start ≡ true → begins_with front path ≡ false → AllByRecursion (λ e. begins_with front e.0 ≡ false) (from_start start es)
+none_named front start path kept es more rising split begun other =
+    let le = (subst (λ (z : List (List ℕ × Entry)). AllByRecursion (λ e. is_le (slice_cmp nat_cmp start e.0) ≡ true) z) split (le-from start es)).0 in
+    let from = le_trans front start path (front_le front start begun) le in
+    let sorted = subst (λ (z : List (List ℕ × Entry)). IsStrictlySortedBy (slice_cmp nat_cmp) (keys_of z)) split (rising-from start es rising) in
+    subst (λ (z : List (List ℕ × Entry)). AllByRecursion (λ e. begins_with front e.0 ≡ false) z) (sym split)
+    (other, none_behind front path more from other (sorted_head (slice_cmp nat_cmp) path (keys_of more) sorted))
 
-pub listing_ends : {Z : Type 0} (front start path : Vec ℕ Z) (kept : Kept) (es more : List (Vec ℕ Z × Kept)) → IsStrictlySortedBy key_cmp (keys_of es) → from_front start es ≡ (path, kept) ∷ more
-    → begins_with front.items start.items ≡ true → begins_with front.items path.items ≡ false → names_behind front.items (shown (from_front start es)) ≡ []
-listing_ends front start path kept es more rising split begun other = names_behind-none front (from_front start es) (none_named front start path kept es more rising split begun other)
+pub listing_ends : (front start path : List ℕ) (kept : Entry) (es more : List (List ℕ × Entry)) → IsStrictlySortedBy (slice_cmp nat_cmp) (keys_of es) → from_start start es ≡ (path, kept) ∷ more
+    → begins_with front start ≡ true → begins_with front path ≡ false → names_behind front ((from_start start es)) ≡ []
+listing_ends front start path kept es more rising split begun other = names_behind-none front (from_start start es) (none_named front start path kept es more rising split begun other)
 
 -- a listing begins
-pub listing_begins : {Z : Type 0} (front start : Vec ℕ Z) (es : List (Vec ℕ Z × Kept)) → start.items ≡ front.items → names_behind front.items (shown (from_front start es)) ≡ names_behind front.items (shown es)
+pub listing_begins : (front start : List ℕ) (es : List (List ℕ × Entry)) → start ≡ front → names_behind front ((from_start start es)) ≡ names_behind front es
 listing_begins front start es same =
-    subst (λ (z : List ℕ). names_behind z (shown (from_front start es)) ≡ names_behind z (shown es)) same (names_behind-from start es)
+    subst (λ (z : List ℕ). names_behind z ((from_start start es)) ≡ names_behind z es) same (names_behind-from start es)
 
 pub begins_self : (front : List ℕ) → begins_with front front ≡ true
 begins_self [] = refl
 begins_self (x ∷ front) = and_from (eqb x x) (begins_with front front) (eq-eqb x x refl) (begins_self front)
 
 -- the path that comes first is one
-pub path_first : {Z : Type 0} (start path : Vec ℕ Z) (kept : Kept) (es more : List (Vec ℕ Z × Kept)) → AllByRecursion (λ e. is_path e.0.items ≡ true) es → from_front start es ≡ (path, kept) ∷ more → is_path path.items ≡ true
-path_first {Z} start path kept es more paths split =
-    (subst (λ (z : List (Vec ℕ Z × Kept)). AllByRecursion (λ e. is_path e.0.items ≡ true) z) split (All-from start (λ e. is_path e.0.items ≡ true) es paths)).0
+pub path_first : (start path : List ℕ) (kept : Entry) (es more : List (List ℕ × Entry)) → AllByRecursion (λ e. is_path e.0 ≡ true) es → from_start start es ≡ (path, kept) ∷ more → is_path path ≡ true
+path_first start path kept es more paths split =
+    (subst (λ (z : List (List ℕ × Entry)). AllByRecursion (λ e. is_path e.0 ≡ true) z) split (All-from start (λ e. is_path e.0 ≡ true) es paths)).0

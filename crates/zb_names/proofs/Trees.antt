@@ -11,7 +11,7 @@ use Rattle.std.proofs.lemmas.Slice.Eq.{bytes_eq-Decides}
 use Rattle.zb_types.specs.Paths.{is_path}
 use Rattle.zb_types.specs.Names.{Entry, directory, numbered, find, has, is_dir, is_below, walk, with_entry, others}
 use Rattle.zb_names.specs.Sound.{IsTree, has_number}
-use Rattle.zb_names.proofs.Kept.{has-find}
+use Rattle.zb_names.proofs.Finding.{has-find}
 use Rattle.zb_names.proofs.Fronts.{hangs_from_walk, walk_from_hanging}
 
 -- ---- what is found after a change

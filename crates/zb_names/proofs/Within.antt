@@ -1,6 +1,6 @@
 -- The entries at a path and below it.
-use Rattle.std.proofs.Common.{◌≡◌, ℕ, true, false, cond, List, [], ◌∷◌, ◌++◌, length, drop, Some, refl, sym, ap, subst, ◌∙◌, inl, inr}
-use Rattle.std.specs.List.{AllByRecursion, filter, list_any}
+use Rattle.std.proofs.Common.{◌≡◌, ℕ, true, false, cond, List, [], ◌∷◌, ◌++◌, Some, refl, sym, ap, subst, ◌∙◌, inl, inr}
+use Rattle.std.specs.List.{AllByRecursion, list_any}
 use Rattle.std.specs.List.Sorted.{IsStrictlySortedBy}
 use Rattle.std.specs.declared.cmp.Ordering.TheVariants.{Less, Equal, Greater}
 use Rattle.std.specs.Ordering.{nat_cmp}
@@ -12,16 +12,10 @@ use Rattle.std.proofs.lemmas.Cmp.{tied_itself, nat_cmp_total, nat_list_cmp_total
 use Rattle.std.proofs.lemmas.Bool.{cases_Bool, or_parts}
 use Rattle.std.proofs.lemmas.Slice.Eq.{bytes_eq-Decides}
 use Rattle.zb_types.specs.Names.{Entry, find, is_below}
-use Rattle.zb_names.specs.declared.moving.Move.{Move}
-use Rattle.zb_names.specs.Moving.{AreMoves, behind, within, olds_of, fresh_of, relocated}
+use Rattle.zb_names.specs.Changing.{within, below}
 use Rattle.zb_names.proofs.Below.{bytes_eq-cmp}
 use Rattle.zb_names.proofs.Fronts.{split_below}
-use Rattle.zb_names.proofs.Kept.{less_back}
-use Rattle.zb_names.proofs.Removing.{begins-below}
-
--- the entries below a path
-abbrev pub below : List ℕ → List (List ℕ × Entry) → List (List ℕ × Entry)
-below path entries = filter (λ e. is_below path e.0) entries
+use Rattle.zb_names.proofs.Finding.{less_back}
 
 longer_behind : (path : List ℕ) (b : ℕ) (rest : List ℕ) → slice_cmp nat_cmp path (path ++ b ∷ rest) ≡ Less
 longer_behind [] b rest = refl
@@ -81,13 +75,3 @@ below-none path [] none = refl
 below-none path (e ∷ es) none =
     let parts = or_parts (is_below path e.0) (list_any (λ x. is_below path x.0) es) none in
     rw parts.0 (below-none path es parts.1)
-
--- what begins with the front of a path stands below it
-pub behind-below : (front path : List ℕ) (es : List (List ℕ × Entry)) → front ≡ path ++ 47 ∷ [] → behind front es ≡ below path es
-behind-below front path es same = ap (λ f. behind f es) same ∙ (λ i. filter (λ e. begins-below path e.0 i) es)
-
--- ---- gathered moves
-
-module _ (from to : List ℕ) (entries : List (List ℕ × Entry)) (entry : Entry) (others : List (List ℕ × Entry)) (split : within from entries ≡ (from, entry) ∷ others) where
-  pub gathered : (moves : List Move) → olds_of moves ≡ from ∷ keys_of others → fresh_of moves ≡ (to ++ drop (length from) from, entry) ∷ relocated (length from) to others → AreMoves from to moves (within from entries)
-  gathered moves olds fresh = record { olds = olds ∙ sym (ap keys_of split); fresh = fresh ∙ sym (ap (relocated (length from) to) split) }

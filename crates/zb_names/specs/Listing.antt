@@ -1,14 +1,10 @@
 -- Names that stand right behind a front.
 use Rattle.std.specs.Prelude.{◌≡◌, ◌⊎◌, ℕ, ◌≤◌, Bool, false, not, ◌&&◌, ◌==◌, if◌then◌else◌, List, [], ◌∷◌, ◌++◌, length, drop, map, filter}
 use Rattle.std.specs.List.{list_any}
-use Rattle.std.specs.declared.vec.Vec.{Vec}
-use Rattle.std.specs.declared.ops.Bound.TheVariants.{Included, Unbounded}
-use Rattle.std.specs.BTreeMap.Range.{entries_between}
 use Rattle.zb_types.specs.Paths.{is_name}
 use Rattle.zb_types.specs.Names.{Entry}
-use Rattle.zb_names.specs.declared.entries.Kept.{Kept}
+use Rattle.zb_names.specs.Placing.{from_start}
 use Rattle.zb_names.specs.Shown.{begins_with}
-use Rattle.zb_names.specs.Sound.{key_cmp}
 
 -- a path or nothing, and then a slash
 abbrev pub IsFront : List ℕ → Type 0
@@ -34,16 +30,12 @@ IsStartBehind n path start =
     ((has_slash (drop n path) ≡ false) × (start ≡ path ++ 0 ∷ []))
     ⊎ ((child : List ℕ) × (more : List ℕ) × (n ≤ length child) × (path ≡ child ++ 47 ∷ more) × (start ≡ child ++ 48 ∷ []))
 
--- the entries from a start on
-abbrev pub from_front : {Z : Type 0} → Vec ℕ Z → List (Vec ℕ Z × Kept) → List (Vec ℕ Z × Kept)
-from_front front es = entries_between key_cmp (Included front) Unbounded es
-
 -- an entry with this path comes first from a start on
-pub record IsFirstFrom {Z : Type 0} (start : Vec ℕ Z) (entries : List (Vec ℕ Z × Kept)) (path : Vec ℕ Z) : Type 0 where
-  pub kept : Kept
-  pub more : List (Vec ℕ Z × Kept)
-  pub split : from_front start entries ≡ (path, kept) ∷ more
+pub record IsFirstFrom (start : List ℕ) (entries : List (List ℕ × Entry)) (path : List ℕ) : Type 0 where
+  pub entry : Entry
+  pub more : List (List ℕ × Entry)
+  pub split : from_start start entries ≡ (path, entry) ∷ more
 
 -- no entry comes from a start on
-abbrev pub HasNoneFrom : {Z : Type 0} → Vec ℕ Z → List (Vec ℕ Z × Kept) → Type 0
-HasNoneFrom start entries = from_front start entries ≡ []
+abbrev pub HasNoneFrom : List ℕ → List (List ℕ × Entry) → Type 0
+HasNoneFrom start entries = from_start start entries ≡ []

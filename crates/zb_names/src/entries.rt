@@ -1,14 +1,19 @@
-ghost use Rattle.std.specs.Prelude.{◌≡◌, false, IfOk, OnOk, OnErr};
+ghost use Rattle.std.specs.Prelude.{◌≡◌, ◌+◌, ◌<◌, ◌≤◌, ◌++◌, [], ◌∷◌, false, true, not, length, filter, option_map, IfOk, OnOk};
 ghost use Rattle.std.specs.List.{AllByRecursion};
 ghost use Rattle.std.specs.List.Sorted.{IsStrictlySortedBy};
+ghost use Rattle.std.specs.Ordering.{nat_cmp};
+ghost use Rattle.std.specs.Cmp.Lexicographic.{slice_cmp};
 ghost use Rattle.std.specs.Map.{keys_of};
-ghost use Rattle.zb_types.specs.Names.{has, with_entry};
-ghost use Rattle.zb_names.specs.Shown.{kept_as, seen, shown};
-ghost use Rattle.zb_names.specs.Sound.{HasFront, IsCopy, key_cmp};
+ghost use Rattle.zb_types.specs.Paths.{is_path};
+ghost use Rattle.zb_types.specs.Names.{find, has, is_within, max_names, others, with_entries, with_entry};
+ghost use Rattle.zb_names.specs.Shown.{listed, seen};
+ghost use Rattle.zb_names.specs.Placing.{IsPlace, from_start};
+ghost use Rattle.zb_names.specs.Changing.{AreNew, staying};
 
-use std::alloc::{AllocError, Global};
-use std::collections::BTreeMap;
-use zb_types::{Fid, Mem};
+use crate::comparing::{is_less, is_within};
+use std::alloc::Global;
+use std::marker::Model;
+use zb_types::{Fid, Mem, Path};
 
 /// What stands at a path.
 #[derive(Clone, Copy, Debug, PartialEq, Eq)]
@@ -17,67 +22,160 @@ pub enum Entry {
     File(Fid),
 }
 
-// An entry as it is kept: a directory has the front of all paths below it, its path with a slash, so that they are
-// found without memory.
+// The most names.
+pub(crate) const MAX_NAMES: usize = 4096;
+
+// Paths with what stands there, in the order of the paths' bytes. They lie in one piece of memory, which has room for
+// the most names from the start, so that an entry is put in without memory. Contracts see for how many there is room.
 #[derive(Drop)]
-pub(crate) enum Kept {
-    Dir { front: Vec<u8> },
-    File(Fid),
+pub(crate) struct EntryList {
+    items: Vec<(Path, Entry)>,
 }
 
-// The entries under the bytes of their paths.
-pub(crate) type EntryMap = BTreeMap<Vec<u8>, Kept>;
+impl Model for EntryList {
+    ghost use Rattle.std.specs.Prelude.{vec_capacity};
+    ghost use Rattle.std.specs.List.Sorted.{IsStrictlySortedBy};
+    ghost use Rattle.std.specs.Ordering.{nat_cmp};
+    ghost use Rattle.std.specs.Cmp.Lexicographic.{slice_cmp};
+    ghost use Rattle.std.specs.Map.{keys_of};
+    ghost use Rattle.zb_names.specs.Shown.{listed};
+    ghost use Rattle.zb_names.specs.Placing.{SeenEntries};
 
-impl Kept {
-    pub(crate) fn entry(&self) -> Entry
-        ensures { seen result ≡ kept_as self.now }
-    {
-        match self {
-            Kept::Dir { front: _ } => Entry::Dir,
-            Kept::File(fid) => Entry::File(*fid),
-        }
-    }
+    ghost Value = { SeenEntries };
 
-    // What is kept of an entry at the path with these bytes.
-    pub(crate) fn at(alloc: Global, path: &[u8], entry: Entry) -> Mem<Kept>
-        ensures seen { IfOk result (λ kept. kept_as kept ≡ seen entry) }
-        ensures front { IfOk result (HasFront path.now) }
-    {
-        match entry {
-            Entry::Dir => {
-                let mut front = Vec::from_slice(alloc, path)?;
-                front.push(b'/')?;
-                Ok(Kept::Dir { front })
-            }
-            Entry::File(fid) => Ok(Kept::File(fid)),
-        }
-    }
+    ghost view = { λ a. record { entries = listed a.items.items; room = vec_capacity a.items } };
+
+    ghost invariant = { λ a. IsStrictlySortedBy (slice_cmp nat_cmp) (keys_of (listed a.items.items)) };
 }
 
-impl Clone for Kept {
-    ghost is_clone = { IsCopy };
-
-    fn clone(&self) -> Result<Kept, AllocError> {
-        match self {
-            Kept::Dir { front } => Ok(Kept::Dir {
-                front: front.clone()?,
-            }),
-            Kept::File(fid) => Ok(Kept::File(*fid)),
-        }
-    }
-}
-
-// Puts an entry under a path at which there is none. The map is as it was where memory runs out.
-pub(crate) fn put(alloc: Global, map: &mut EntryMap, path: &[u8], entry: Entry) -> Mem<()>
-    requires absent { has path.now (shown map.old.entries) ≡ false }
-    requires rising { IsStrictlySortedBy key_cmp (keys_of map.old.entries) }
-    ensures ok { OnOk result (shown map.new.entries ≡ with_entry path.now (seen entry) (shown map.old.entries)) }
-    ensures err { OnErr result (map.new.entries ≡ map.old.entries) }
-    ensures rising { IsStrictlySortedBy key_cmp (keys_of map.new.entries) }
-    ensures fronts { AllByRecursion (λ e. HasFront e.0.items e.1) map.old.entries → AllByRecursion (λ e. HasFront e.0.items e.1) map.new.entries }
+// The same path once more.
+pub(crate) fn copy_of(alloc: Global, path: &Path) -> Mem<Path>
+    ensures same { IfOk result (λ copy. copy ≡ path.now) }
+    ensures path { OnOk result (is_path path.now ≡ true) }
 {
-    let key = Vec::from_slice(alloc, path)?;
-    let kept = Kept::at(alloc, path, entry)?;
-    map.insert(key, kept)?;
-    Ok(())
+    let _ = path.slice();
+    path.copy(alloc)
+}
+
+impl EntryList {
+    // The entries with these paths, which rise.
+    pub(crate) fn of(alloc: Global, list: &[(Path, Entry)]) -> Mem<EntryList>
+        requires { IsStrictlySortedBy (slice_cmp nat_cmp) (keys_of (listed list.now)) }
+        ensures same { IfOk result (λ made. made.entries ≡ listed list.now) }
+        ensures room { IfOk result (λ made. max_names ≤ made.room) }
+        ensures fits { IfOk result (λ made. length list.now ≤ made.room) }
+        ensures paths { OnOk result (AllByRecursion (λ e. is_path e.0 ≡ true) (listed list.now)) }
+    {
+        let mut items = Vec::with_capacity(alloc, list.len().max(MAX_NAMES))?;
+        for given in list {
+            items.push((copy_of(alloc, &given.0)?, given.1))?;
+        }
+        Ok(EntryList { items })
+    }
+
+    pub(crate) fn slice(&self) -> &[(Path, Entry)]
+        ensures same { listed result.now ≡ self.now.entries }
+        ensures rising { IsStrictlySortedBy (slice_cmp nat_cmp) (keys_of self.now.entries) }
+    {
+        &self.items
+    }
+
+    // How many paths are less than the one with these two parts.
+    fn place(&self, head: &[u8], tail: &[u8]) -> usize
+        ensures bound { result ≤ length self.now.entries }
+        ensures place { IsPlace (head.now ++ tail.now) (keys_of self.now.entries) result }
+    {
+        let mut low = 0;
+        let mut high = self.items.len();
+        while low < high {
+            let middle = low + (high - low) / 2;
+            if is_less(self.items[middle].0.slice(), head, tail) {
+                low = middle + 1;
+            } else {
+                high = middle;
+            }
+        }
+        low
+    }
+
+    // The entries from the path with these two parts on.
+    pub(crate) fn from_path(&self, head: &[u8], tail: &[u8]) -> &[(Path, Entry)]
+        ensures rest { listed result.now ≡ from_start (head.now ++ tail.now) self.now.entries }
+        ensures rising { IsStrictlySortedBy (slice_cmp nat_cmp) (keys_of self.now.entries) }
+    {
+        let i = self.place(head, tail);
+        let (_, rest) = self.items.split_at(i);
+        rest
+    }
+
+    // What stands at a path.
+    pub(crate) fn find(&self, path: &[u8]) -> Option<Entry>
+        ensures { option_map seen result ≡ find path.now self.now.entries }
+    {
+        let Some((first, entry)) = self.from_path(path, b"").first() else {
+            return None;
+        };
+        if path != first.slice() {
+            return None;
+        }
+        Some(*entry)
+    }
+
+    // Puts an entry in at a path at which there is none, without memory.
+    pub(crate) fn put(&mut self, path: Path, entry: Entry)
+        requires absent { has path self.old.entries ≡ false }
+        requires room { length self.old.entries < self.old.room }
+        ensures entries { self.new.entries ≡ with_entry path (seen entry) self.old.entries }
+        ensures room { self.old.room ≤ self.new.room }
+    {
+        let i = self.place(path.slice(), b"");
+        let _ = self.items.insert(i, (path, entry));
+    }
+
+    // Puts entries in, the last first, without memory.
+    pub(crate) fn put_all(&mut self, fresh: Vec<(Path, Entry)>)
+        requires new { AreNew (listed fresh.items) self.old.entries }
+        requires room { length fresh.items + length self.old.entries ≤ self.old.room }
+        ensures entries { self.new.entries ≡ with_entries (listed fresh.items) self.old.entries }
+        ensures room { self.old.room ≤ self.new.room }
+    {
+        let mut left = fresh;
+        while let Some((path, entry)) = left.pop() {
+            self.put(path, entry);
+        }
+    }
+
+    // Takes out what stands at a path, if something does.
+    pub(crate) fn remove(&mut self, path: &[u8])
+        ensures entries { self.new.entries ≡ others path.now self.old.entries }
+        ensures room { self.old.room ≤ self.new.room }
+    {
+        let i = self.place(path, b"");
+        if i >= self.items.len() {
+            return;
+        }
+        if path != self.items[i].0.slice() {
+            return;
+        }
+        self.items.remove(i);
+    }
+
+    // Takes out what stands at a path and below it.
+    fn remove_within(&mut self, path: &[u8])
+        ensures entries { self.new.entries ≡ filter (λ e. not (is_within path.now e.0)) self.old.entries }
+        ensures room { self.old.room ≤ self.new.room }
+    {
+        self.items
+            .retain(|(other, _)| !is_within(path, other.slice()));
+    }
+
+    // Takes out what stands at a path and below it, if there is one.
+    pub(crate) fn remove_gone(&mut self, gone: &Option<Path>)
+        ensures entries { self.new.entries ≡ staying gone.now self.old.entries }
+        ensures room { self.old.room ≤ self.new.room }
+    {
+        if let Some(path) = gone {
+            self.remove_within(path.slice());
+        }
+    }
 }

@@ -1,9 +1,10 @@
 //! The names of a file tree: what stands at each path, in memory.
 #![tactic(auto)]
 
+mod changing;
+mod comparing;
 mod entries;
 mod faults;
-mod in_order;
 mod listing;
 mod loading;
 mod looking;
@@ -11,7 +12,7 @@ mod moving;
 mod refusing;
 mod table;
 
+pub use changing::Prepared;
 pub use entries::Entry;
 pub use faults::NameFault;
-pub use in_order::Entries;
 pub use table::Names;

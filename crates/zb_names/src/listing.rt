@@ -1,13 +1,12 @@
 ghost use Rattle.std.specs.Prelude.{◌≡◌, ◌≢◌, ℕ, ◌<◌, ◌≤◌, ◌++◌, [], ◌∷◌, true, drop, length, slice_index, IfNone, IfOk, IfSome, OnOk, OnErr};
-ghost use Rattle.std.specs.List.{AllByRecursion};
 ghost use Rattle.std.specs.List.Sorted.{IsStrictlySortedBy};
 ghost use Rattle.std.specs.Map.{keys_of};
 ghost use Rattle.zb_types.specs.Paths.{is_path};
-ghost use Rattle.zb_names.specs.Sound.{key_cmp};
-ghost use Rattle.zb_names.specs.Shown.{shown};
+ghost use Rattle.std.specs.Ordering.{nat_cmp};
+ghost use Rattle.std.specs.Cmp.Lexicographic.{slice_cmp};
 ghost use Rattle.zb_names.specs.Listing.{IsFront, IsStartBehind, IsFirstFrom, HasNoneFrom, name_of, names_behind};
 
-use crate::entries::EntryMap;
+use crate::entries::EntryList;
 use std::alloc::Global;
 use zb_types::{Mem, Name, NameList};
 
@@ -65,24 +64,24 @@ fn pass(alloc: Global, names: &mut NameList, path: &[u8], front: &[u8]) -> Mem<V
 }
 
 // The first path from a start on.
-fn first_from<'a>(map: &'a EntryMap, start: &Vec<u8>) -> Option<&'a Vec<u8>>
-    ensures some { IfSome result (λ path. IsFirstFrom start.now map.now.entries path.now) }
-    ensures none { IfNone result (HasNoneFrom start.now map.now.entries) }
+fn first_from<'a>(kept: &'a EntryList, start: &[u8]) -> Option<&'a [u8]>
+    ensures some { IfSome result (λ path. IsFirstFrom start.now kept.now.entries path.now) }
+    ensures none { IfNone result (HasNoneFrom start.now kept.now.entries) }
+    ensures path { IfSome result (λ path. is_path path.now ≡ true) }
+    ensures rising { IsStrictlySortedBy (slice_cmp nat_cmp) (keys_of kept.now.entries) }
 {
-    let (path, _) = map.range(start..).next()?;
-    Some(path)
+    let (path, _) = kept.from_path(start, b"").first()?;
+    Some(path.slice())
 }
 
 // The names that stand right behind the front, in their order. What lies below a child is left out in one step.
-pub(crate) fn names_behind(alloc: Global, map: &EntryMap, front: &Vec<u8>) -> Mem<NameList>
-    requires front { IsFront front.now.items }
-    requires paths { AllByRecursion (λ e. is_path e.0.items ≡ true) map.now.entries }
-    requires rising { IsStrictlySortedBy key_cmp (keys_of map.now.entries) }
-    ensures { IfOk result (λ names. names ≡ names_behind front.now.items (shown map.now.entries)) }
+pub(crate) fn names_behind(alloc: Global, kept: &EntryList, front: &[u8]) -> Mem<NameList>
+    requires { IsFront front.now }
+    ensures { IfOk result (λ names. names ≡ names_behind front.now kept.now.entries) }
 {
     let mut names = NameList::new(alloc)?;
     let mut start = Vec::from_slice(alloc, front)?;
-    while let Some(path) = first_from(map, &start) {
+    while let Some(path) = first_from(kept, &start) {
         if !path.starts_with(front) {
             return Ok(names);
         }

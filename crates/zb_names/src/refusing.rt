@@ -10,7 +10,7 @@ use zb_types::{Call, Path, Refusal};
 
 impl Names {
     // Why no file is made at the path, if none is.
-    fn refusal_of_create(&self, path: &Path) -> Option<Refusal>
+    pub(crate) fn refusal_of_create(&self, path: &Path) -> Option<Refusal>
         ensures { result ≡ name_refusal self.now (Create path.now) }
     {
         let why = refusal_of_new(&self.kept, path.slice());
@@ -24,7 +24,7 @@ impl Names {
     }
 
     // Why no names are listed at the path, if none are.
-    fn refusal_of_list(&self, path: &Path) -> Option<Refusal>
+    pub(crate) fn refusal_of_list(&self, path: &Path) -> Option<Refusal>
         ensures { result ≡ name_refusal self.now (ListOf (Some path.now)) }
     {
         match self.resolve(path) {

@@ -1,53 +1,42 @@
-ghost use Rattle.std.specs.Prelude.{◌≡◌, ◌+◌, ◌≤◌, [], ◌∷◌, None, Some, true, false, OnOk, OnErr, IfOk, IfErr, MatchResult, IfSome, IsSome, ◌↔◌, IsTrue, length, option_map, slice_get};
+ghost use Rattle.std.specs.Prelude.{◌≡◌, ◌+◌, ◌≤◌, [], ◌∷◌, None, Some, false, OnOk, OnErr, IfOk, IfErr, MatchResult, IfSome, IsSome, ◌↔◌, IsTrue, length, option_map, slice_get};
 ghost use Rattle.std.specs.List.{list_any};
-ghost use Rattle.zb_types.specs.Paths.{is_path};
-ghost use Rattle.zb_types.specs.Names.{first_names, walk, has, find, with_entry, is_below, name_refusal, name_effect, name_change, name_reply, names_in};
+ghost use Rattle.zb_types.specs.Names.{first_names, walk, has, find, is_below, name_refusal, name_effect, name_change, name_reply, names_in};
 ghost use Rattle.zb_types.specs.Tree.{or_none};
 ghost use Rattle.std.specs.Option.{option_copied};
 ghost use Rattle.zb_types.specs.declared.calls.Call.TheVariants.{Create, Mkdir, Remove, Rename, Stat, List as ListOf};
 ghost use Rattle.zb_types.specs.declared.calls.Reply.TheVariants.{Made};
-ghost use Rattle.zb_names.specs.Shown.{kept_as, seen, listed, change_of};
-ghost use Rattle.zb_names.specs.Sound.{HasFront, IsTree, has_number};
+ghost use Rattle.zb_names.specs.Shown.{seen, listed, change_of};
+ghost use Rattle.zb_names.specs.Sound.{IsTree};
 ghost use Rattle.zb_names.specs.Answers.{IsAnswer};
 
-use crate::entries::{Entry, EntryMap, Kept, put};
+use crate::entries::{Entry, EntryList};
 use crate::faults::NameFault;
-use crate::in_order::Entries;
 use crate::listing::names_behind;
-use crate::loading::{all_hang, are_numbered, gather, rise};
-use crate::looking::{entry_at, has_below, refusal_of_new};
-use crate::moving::{gather_moves, movable, shift};
+use crate::loading::{all_hang, are_numbered, rise};
+use crate::looking::{entry_at, has_below};
 use std::alloc::Global;
 use std::marker::Model;
 use zb_types::{Fid, Mem, NameList, Path, Refusal};
 
 pub(crate) const LAST_NUMBER: u32 = 4_294_967_295;
 
-/// Files and directories under their paths, which contracts see as the names of the plain tree.
+/// Files and directories under their paths, which contracts see as the names of the plain tree. There is room for the
+/// most names from the start: an operation takes memory for new paths alone.
 #[derive(Drop)]
 pub struct Names {
     pub(crate) next: u32,
-    pub(crate) kept: EntryMap,
+    pub(crate) kept: EntryList,
 }
 
 impl Model for Names {
     ghost use Rattle.zb_types.specs.Names.{Names as PlainNames};
-    ghost use Rattle.zb_names.specs.Shown.{shown};
     ghost use Rattle.zb_names.specs.Sound.{IsSound};
 
     ghost Value = { PlainNames };
 
-    ghost view = { λ a. record { next = a.next; entries = shown a.kept.entries } };
+    ghost view = { λ a. record { next = a.next; entries = a.kept.entries } };
 
-    ghost invariant = { λ a. IsSound a.next a.kept.entries };
-}
-
-// The path with these bytes.
-fn path_of(alloc: Global, bytes: &[u8]) -> Mem<Path>
-    requires { IsTrue (is_path bytes.now) }
-    ensures { IfOk result (λ path. path ≡ bytes.now) }
-{
-    Ok(Path::parse(alloc, bytes)?.unwrap())
+    ghost invariant = { λ a. IsSound a.next a.kept };
 }
 
 impl Names {
@@ -57,7 +46,7 @@ impl Names {
     {
         Ok(Names {
             next: 1,
-            kept: EntryMap::new(alloc),
+            kept: EntryList::of(alloc, &[])?,
         })
     }
 
@@ -75,7 +64,7 @@ impl Names {
         if !are_numbered(next, list) {
             return Ok(None);
         }
-        let kept = gather(alloc, list)?;
+        let kept = EntryList::of(alloc, list)?;
         if !all_hang(&kept, list) {
             return Ok(None);
         }
@@ -87,8 +76,7 @@ impl Names {
         ensures found { IfOk result (λ entry. find path.now self.now.entries ≡ Some (seen entry)) }
         ensures refused { MatchResult result (λ _. name_refusal self.now (Stat path.now) ≡ None) (λ why. name_refusal self.now (Stat path.now) ≡ Some why) }
     {
-        let kept = entry_at(&self.kept, path.slice())?;
-        Ok(kept.entry())
+        entry_at(&self.kept, path.slice())
     }
 
     /// The number that the next file gets.
@@ -98,20 +86,6 @@ impl Names {
         self.next
     }
 
-    // Adds an entry, behind which the next file gets this number.
-    fn add(&mut self, alloc: Global, path: &Path, entry: Entry, next: u32) -> Mem<()>
-        requires walked { walk self.old.entries path.now ≡ None }
-        requires free { has path.now self.old.entries ≡ false }
-        requires rises { self.old.next ≤ next }
-        requires number { has_number next (seen entry) ≡ true }
-        ensures ok { OnOk result (self.new ≡ record { next = next; entries = with_entry path.now (seen entry) self.old.entries }) }
-        ensures err { OnErr result (self.new ≡ self.old) }
-    {
-        put(alloc, &mut self.kept, path.slice(), entry)?;
-        self.next = next;
-        Ok(())
-    }
-
     /// Makes an empty file, and gives its number.
     pub fn create(&mut self, alloc: Global, path: &Path) -> Result<Fid, NameFault>
         ensures ok { OnOk result (self.new ≡ name_effect self.old (Create path.now)) }
@@ -119,14 +93,9 @@ impl Names {
         ensures refused { IsAnswer (name_refusal self.old (Create path.now)) result }
         ensures err { OnErr result (self.new ≡ self.old) }
     {
-        if let Some(why) = refusal_of_new(&self.kept, path.slice()) {
-            return Err(NameFault::Refused(why));
-        }
-        if self.next == LAST_NUMBER {
-            return Err(NameFault::Refused(Refusal::Full));
-        }
         let number = self.next;
-        self.add(alloc, path, Entry::File(Fid(number)), number + 1)?;
+        let prepared = self.prepare_create(alloc, path)?;
+        self.apply(prepared);
         Ok(Fid(number))
     }
 
@@ -136,10 +105,8 @@ impl Names {
         ensures refused { IsAnswer (name_refusal self.old (Mkdir path.now)) result }
         ensures err { OnErr result (self.new ≡ self.old) }
     {
-        if let Some(why) = refusal_of_new(&self.kept, path.slice()) {
-            return Err(NameFault::Refused(why));
-        }
-        self.add(alloc, path, Entry::Dir, self.next)?;
+        let prepared = self.prepare_mkdir(alloc, path)?;
+        self.apply(prepared);
         Ok(())
     }
 
@@ -149,14 +116,13 @@ impl Names {
         ensures file { IfOk result (λ fid. change_of fid ≡ name_change self.now (Remove path.now)) }
         ensures refused { MatchResult result (λ _. name_refusal self.now (Remove path.now) ≡ None) (λ why. name_refusal self.now (Remove path.now) ≡ Some why) }
     {
-        match entry_at(&self.kept, path.slice())? {
-            Kept::File(fid) => Ok(Some(*fid)),
-            Kept::Dir { front } => {
-                if has_below(&self.kept, front) {
-                    return Err(Refusal::NotEmpty);
-                }
-                Ok(None)
-            }
+        let entry = entry_at(&self.kept, path.slice())?;
+        if has_below(&self.kept, path.slice()) {
+            return Err(Refusal::NotEmpty);
+        }
+        match entry {
+            Entry::File(fid) => Ok(Some(fid)),
+            Entry::Dir => Ok(None),
         }
     }
 
@@ -171,17 +137,15 @@ impl Names {
         self.kept.remove(path.slice());
         Ok(fid)
     }
+
     /// Renames a file, or a directory with what lies below it.
     pub fn rename(&mut self, alloc: Global, from: &Path, to: &Path) -> Result<(), NameFault>
         ensures ok { OnOk result (self.new ≡ name_effect self.old (Rename from.now to.now)) }
         ensures refused { IsAnswer (name_refusal self.old (Rename from.now to.now)) result }
         ensures err { OnErr result (self.new ≡ self.old) }
     {
-        let from = from.slice();
-        let to = to.slice();
-        let kept = movable(&self.kept, from, to)?;
-        let moves = gather_moves(alloc, &self.kept, kept, from, to)?;
-        shift(alloc, &mut self.kept, &moves)?;
+        let prepared = self.prepare_rename(alloc, from, to)?;
+        self.apply(prepared);
         Ok(())
     }
 
@@ -190,62 +154,50 @@ impl Names {
         ensures count { result ≡ length self.now.entries }
         ensures tree { IsTree self.now.next self.now.entries }
     {
-        self.kept.len()
+        self.kept.slice().len()
     }
 
-    /// The same names once more, in memory of the same allocator.
-    pub fn copy(&self, _alloc: Global) -> Mem<Names>
+    /// The same names once more.
+    pub fn copy(&self, alloc: Global) -> Mem<Names>
         ensures { IfOk result (λ names. names ≡ self.now) }
     {
         Ok(Names {
             next: self.next,
-            kept: self.kept.clone()?,
+            kept: EntryList::of(alloc, self.kept.slice())?,
         })
     }
 
     /// Each path with what stands there, in the order of the paths' bytes.
-    pub fn entries(&self, alloc: Global) -> Mem<Vec<(Path, Entry)>>
-        ensures { IfOk result (λ list. listed list.items ≡ self.now.entries) }
+    pub fn entries(&self) -> &[(Path, Entry)]
+        ensures { listed result.now ≡ self.now.entries }
     {
-        let mut list = Vec::new(alloc);
-        for (key, kept) in &self.kept {
-            list.push((path_of(alloc, key)?, kept.entry()))?;
-        }
-        Ok(list)
+        self.kept.slice()
     }
 
-    /// Goes through each path with what stands there, in the order of the paths' bytes, without memory.
-    pub fn iter(&self) -> Entries<'_>
-        ensures { result ≡ self.now.entries }
-    {
-        Entries::of(self.kept.iter())
-    }
-
-    /// The path with this place in the order of the paths' bytes, from 0, and what stands there. It takes as many steps.
-    pub fn at(&self, i: usize) -> Option<(&[u8], Entry)>
+    /// The path with this place in the order of the paths' bytes, from 0, and what stands there.
+    pub fn at(&self, i: usize) -> Option<(&Path, Entry)>
         ensures { option_map (λ e. (e.0.now, seen e.1)) result ≡ slice_get self.now.entries i }
     {
-        let (path, kept) = self.kept.iter().nth(i)?;
-        Some((path.as_slice(), kept.entry()))
+        let (path, entry) = self.kept.slice().get(i)?;
+        Some((path, *entry))
     }
 
     fn list_root(&self, alloc: Global) -> Mem<NameList>
         ensures { IfOk result (λ names. names ≡ names_in [] self.now.entries) }
     {
-        let mut front = Vec::new(alloc);
-        front.push(b'/')?;
-        names_behind(alloc, &self.kept, &front)
+        names_behind(alloc, &self.kept, b"/")
     }
 
     fn list_at(&self, alloc: Global, path: &Path) -> Result<NameList, NameFault>
         ensures ok { IfOk result (λ names. names ≡ names_in path.now self.now.entries) }
         ensures refused { IsAnswer (name_refusal self.now (ListOf (Some path.now))) result }
     {
-        let kept = entry_at(&self.kept, path.slice())?;
-        match kept {
-            Kept::File(_) => Err(NameFault::Refused(Refusal::NotDir)),
-            Kept::Dir { front } => Ok(names_behind(alloc, &self.kept, front)?),
+        if let Some(why) = self.refusal_of_list(path) {
+            return Err(NameFault::Refused(why));
         }
+        let mut front = Vec::from_slice(alloc, path.slice())?;
+        front.push(b'/')?;
+        Ok(names_behind(alloc, &self.kept, &front)?)
     }
 
     /// The names in a directory, or in the root, in the order of their paths.

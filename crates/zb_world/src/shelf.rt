@@ -289,10 +289,10 @@ impl Shelf {
         ensures { IfOk result (λ list. list ≡ listing self.now.tree) }
     {
         let mut entries = Vec::new(alloc);
-        for (path, entry) in self.names.entries(alloc)? {
+        for (path, entry) in self.names.entries() {
             entries.push(TreeEntry {
-                path,
-                listed: self.listed(entry),
+                path: path.copy(alloc)?,
+                listed: self.listed(*entry),
             })?;
         }
         Ok(TreeList::of(entries))

@@ -1,17 +1,18 @@
-use Rattle.std.proofs.Common.{◌≡◌, ◌++◌, true}
+use Rattle.std.proofs.Common.{◌≡◌, ◌++◌, ◌∷◌, [], true, length, drop}
 use Rattle.std.specs.List.{AllByRecursion}
 use Rattle.std.specs.List.Sorted.{IsStrictlySortedBy}
 use Rattle.std.specs.Map.{keys_of}
-use Rattle.std.specs.Ordering.{is_le}
-use Rattle.zb_names.specs.Shown.{shown}
-use Rattle.zb_names.specs.Sound.{key_cmp}
-use Rattle.zb_names.specs.Moving.{olds_of, fresh_of, behind, relocated}
+use Rattle.std.specs.Ordering.{nat_cmp, is_le}
+use Rattle.std.specs.Cmp.Lexicographic.{slice_cmp}
+use Rattle.zb_types.specs.Paths.{is_path}
+use Rattle.zb_names.specs.Shown.{listed}
+use Rattle.zb_names.specs.Changing.{relocated, below}
 use Rattle.zb_names.proofs.moving.push_below.Given as goal
 
 abbrev pub invariant-loop-path : goal.invariant-loop-path
 invariant-loop-path l = record {
-  olds : olds_of l.moves.items ++ keys_of (behind l.front.items (shown l.path-iterator)) ≡ olds_of l.initial.moves.items ++ keys_of (behind l.front.items (shown l.map.entries));
-  fresh : fresh_of l.moves.items ++ relocated l.cut l.to (behind l.front.items (shown l.path-iterator)) ≡ fresh_of l.initial.moves.items ++ relocated l.cut l.to (behind l.front.items (shown l.map.entries));
-  rising : IsStrictlySortedBy key_cmp (keys_of l.path-iterator);
-  from : AllByRecursion (λ e. is_le (key_cmp l.front e.0) ≡ true) l.path-iterator;
+  so_far : listed l.fresh.items ++ relocated (length l.from) l.to (below l.from (listed (drop l.path-index l.path-items))) ≡ listed l.fn.fresh.items ++ relocated (length l.from) l.to (below l.from l.kept.entries);
+  paths : AllByRecursion (λ e. is_path e.0 ≡ true) (relocated (length l.from) l.to (below l.from (listed (drop l.path-index l.path-items))));
+  rising : IsStrictlySortedBy (slice_cmp nat_cmp) (keys_of (listed (drop l.path-index l.path-items)));
+  from : AllByRecursion (λ e. is_le (slice_cmp nat_cmp (l.from ++ 47 ∷ []) e.0) ≡ true) (listed (drop l.path-index l.path-items));
 }

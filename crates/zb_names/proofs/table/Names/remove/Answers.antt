@@ -1,19 +1,21 @@
-use Rattle.std.proofs.Common.{◌≡◌, false, sym, ap, subst, ◌∙◌}
+use Rattle.std.proofs.Common.{◌≡◌, false, not, length, sym, ap, subst, ◌∙◌, arith}
 use Rattle.std.specs.List.{list_any}
-use Rattle.zb_types.specs.Names.{is_below, others}
-use Rattle.zb_names.specs.Shown.{shown}
-use Rattle.zb_names.proofs.Kept.{remove_entry-shown, rising-keys}
-use Rattle.zb_names.proofs.Sounds.{IsSound-remove}
+use Rattle.std.specs.Str.{bytes_eq}
+use Rattle.zb_types.specs.Names.{Names, is_below, others}
+use Rattle.zb_names.specs.Sound.{IsTree}
+use Rattle.zb_names.proofs.Carrying.{length-filter, sorted-filter}
+use Rattle.zb_names.proofs.Trees.{IsTree-others}
 use Rattle.zb_names.proofs.table.Names.remove.Goals as goal
 
 pub invariant_of-self : goal.invariant_of-self
 invariant_of-self c =
-    let none : list_any (λ e. is_below c.slice.result.now e.0) (shown c.self.inside.kept.entries) ≡ false =
-    rw c.slice.ensures.same (subst (λ names. list_any (λ e. is_below c.args.path.now e.0) names.entries ≡ false) (sym c.self.view_is) c.in_ok-fid.ensures.none_below) in
-    let gone = c.remove.ensures.entries in
-    rw gone (IsSound-remove c.self.inside.next c.self.inside.kept.entries c.slice.result.now c.self.invariant (rw gone at c.remove.ensures.ordered) none)
-
-pub returns-clause-ok : goal.returns-clause-ok
-returns-clause-ok c =
-    let gone = ap shown c.remove.ensures.entries ∙ remove_entry-shown c.slice.result.now c.self.inside.kept.entries (rising-keys c.self.inside.kept.entries c.self.invariant.tree.rising) in
-    rw (gone, c.slice.ensures.same) (ap (λ names. record { next = names.next; entries = others c.args.path.now names.entries }) c.self.view_is)
+    let path = c.args.path.now in
+    let entries = c.self.inside.kept.entries in
+    let none : list_any (λ e. is_below path e.0) entries ≡ false = subst (λ (n : Names). list_any (λ e. is_below path e.0) n.entries ≡ false) (sym c.self.view_is) c.in_ok-fid.ensures.none_below in
+    let gone : c.remove.new.self.entries ≡ others path entries = c.remove.ensures.entries ∙ ap (λ p. others p entries) c.slice.ensures.same in
+    let tree = IsTree-others c.self.inside.next path entries c.self.invariant.tree none (sorted-filter (λ e. not (bytes_eq path e.0)) entries c.self.invariant.tree.rising) in
+    record {
+      tree = subst (IsTree c.self.inside.next) (sym gone) tree;
+      most = omega (arith, c.self.invariant.most, c.remove.ensures.room);
+      fits = omega (arith, ap length gone, length-filter (λ e. not (bytes_eq path e.0)) entries, c.self.invariant.fits, c.remove.ensures.room);
+    }

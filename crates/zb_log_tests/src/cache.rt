@@ -39,7 +39,13 @@ fn the_blocks_that_were_used_last_stay(rt: HostRuntime) -> Result<(), Fail> {
         assert_eq!(rt; get(&mut cache, 0), Some(7));
     }
     put(&mut cache, alloc, 3, 8)?;
-    for (stripe, byte) in [(0, Some(7)), (1, None), (2, None), (3, Some(8)), (4, Some(7))] {
+    for (stripe, byte) in [
+        (0, Some(7)),
+        (1, None),
+        (2, None),
+        (3, Some(8)),
+        (4, Some(7)),
+    ] {
         assert_eq!(rt; get(&mut cache, stripe), byte);
     }
     Ok(())

@@ -1,0 +1,10 @@
+//! The tables of the file manager: what they hold, what an entry of the journal does to them, and the tree that they
+//! show. Definitions and their laws alone.
+#![tactic(auto)]
+
+mod laws;
+
+pub use laws::{
+    batch_shows_updates, clean_leaves_files, clean_leaves_heads, current_lookup_merges,
+    tail_shows_again,
+};

@@ -1,4 +1,4 @@
--- Files in kept: what is found there once a kept has changed.
+-- What is kept under numbers: the files and the room that are found there, also once one of these has changed.
 use Rattle.std.proofs.Common.{◌≡◌, ℕ, ◌+◌, ◌<◌, ◌≤◌, List, [], ◌∷◌, length, Option, Some, None, refl, sym, ap, ◌∙◌, subst, inl, inr, arith}
 use Rattle.std.specs.Prelude.{option_map, is_some, true, false, ◌==◌, if◌then◌else◌, IsSomeAnd}
 use Rattle.std.specs.Prelude.{Result, Ok, Err, OnErr, IsOk, IsSome}
@@ -78,7 +78,7 @@ look-files q (e ∷ es) rising =
 found_some : (k : ℕ) (es : KeptFiles) (kept : Kept) → look k es ≡ Some kept → is_some (look k es) ≡ true
 found_some k es kept found = ap is_some found
 
--- ---- a kept with another file
+-- ---- another file under a number
 
 module _ (es : KeptFiles) (rising : IsRising es) (k : ℕ) (old new : Kept) (found : look k es ≡ Some old) where
   look_here : look k (files_in (replaced k new es)) ≡ file_in new
@@ -128,7 +128,7 @@ module _ (es : KeptFiles) (rising : IsRising es) (k : ℕ) (old new : Kept) (fou
 pub unchanged_at : (es : KeptFiles) (rising : IsRising es) (k : ℕ) (f : FileState → FileState) → look k es ≡ None → files_in es ≡ changed_at k f (files_in es)
 unchanged_at es rising k f none = sym (ap (change_in k f (files_in es)) (look-files k es rising ∙ ap file_at none))
 
--- a kept that is no file
+-- room under a new number is no file
 pub files_more : (es : KeptFiles) (rising : IsRising es) (k : ℕ) (kept : Kept) → look k es ≡ None → file_in kept ≡ None → files_in (put k kept es) ≡ files_in es
 files_more es rising k kept none bare = same_keyed (files_in (put k kept es)) (files_in es) (rising_files (put k kept es) (IsRising-put k kept es rising)) (rising_files es rising) (λ q.
     look-files q (put k kept es) (IsRising-put k kept es rising) ∙ elim (cases_eq k q) [
@@ -178,7 +178,7 @@ not_some_and (Some m) n e has = none-some m (sym e)
 pub no_room : (es : KeptFiles) (k n : ℕ) → look k es ≡ None → RoomIn es k n → ⊥
 no_room es k n none has = not_some_and (look k (rooms_in es)) n (look-rooms k es ∙ ap (over room) none) has
 
--- the kept that is there
+-- what is kept under a number that has room
 pub record Found (es : KeptFiles) (k n : ℕ) : Type 0 where
   pub kept : Kept
   pub is : look k es ≡ Some kept
@@ -197,7 +197,7 @@ rooms_put_other es k q new other = look-rooms q (put k new es) ∙ ap (over room
 pub rooms_without_other : (es : KeptFiles) (k q : ℕ) → (q ≡ k → ⊥) → look q (rooms_in (without k es)) ≡ look q (rooms_in es)
 rooms_without_other es k q other = look-rooms q (without k es) ∙ ap (over room) (look-without_other q k es (λ same. other (sym same))) ∙ sym (look-rooms q es)
 
--- a room that a new kept keeps
+-- the room that is kept with another file
 pub room_kept : (es : KeptFiles) (rising : IsRising es) (k : ℕ) (old new : Kept) (n m : ℕ) → look k es ≡ Some old → (n ≤ room old → m ≤ room new) → RoomIn es k n → RoomIn (replaced k new es) k m
 room_kept es rising k old new n m found keeps has =
     has_room (replaced k new es) k new m (look-replaced_same k new es (found_some k es old found)) (keeps (room_had es k old n found has))

@@ -9,8 +9,8 @@ use std::marker::Model;
 use zb_types::{BlockList, Mem, NoMemory, Ptr};
 
 /// Where the blocks of a file stand, by their numbers, with room for more. They lie in order in one piece of memory,
-/// so that room can be made before it is needed: a block is found by halving; a new one behind all others moves
-/// none, and one before others moves these, at most the 16,384 of a file.
+/// since no map of the library can make room before it is needed. A block is found by halving; a new one behind all
+/// others moves none, and one before others moves these.
 #[derive(Drop)]
 pub(crate) struct BlockMap {
     pairs: Vec<(u32, Ptr)>,

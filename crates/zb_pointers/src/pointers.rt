@@ -12,7 +12,9 @@ use std::marker::Model;
 use zb_types::{Fid, Geometry, Mem, NoMemory, Ptr};
 
 /// Files by their numbers, with their blocks. Contracts see the files of the tables, and for how many new blocks each
-/// has room.
+/// has room. A file is found in an ordered map and a block of it by halving, so in steps that grow as the logarithms of
+/// how many there are. A new block behind all others of its file moves none, one before others moves these in memory;
+/// a cut takes steps for what it drops alone.
 #[derive(Drop)]
 pub struct Pointers {
     block: u32,
@@ -66,7 +68,8 @@ impl Pointers {
         }
     }
 
-    /// Puts a block of a file to a place. Takes no memory where the file has room, nor where the block stood somewhere.
+    /// Lets a block of a file stand at a place. Takes no memory where the file has room, nor where the block stood
+    /// somewhere. Where there is no such file, nothing changes.
     pub fn set(&mut self, _alloc: Global, fid: Fid, block: u32, ptr: Ptr) -> Mem<()>
         ensures ok { OnOk result (self.new.files ≡ changed_at fid.0 (set_block block ptr) self.old.files) }
         ensures err { OnErr result (self.new.files ≡ self.old.files) }
@@ -83,7 +86,8 @@ impl Pointers {
         kept.set(block, ptr)
     }
 
-    /// Gives a file a length and its next version, and drops the blocks behind that length.
+    /// Gives a file a length and its next version, and drops the blocks that begin at or behind that length. Where there
+    /// is no such file, nothing changes.
     pub fn cut(&mut self, fid: Fid, length: u32)
         ensures files { self.new.files ≡ changed_at fid.0 (cut self.old.block length) self.old.files }
         ensures room { KeepsRoom fid.0 self.old self.new }
@@ -97,7 +101,7 @@ impl Pointers {
         kept.cut(block, length);
     }
 
-    /// Gives a file its next version, and this length where it is shorter.
+    /// Gives a file its next version, and this length where it is shorter. Where there is no such file, nothing changes.
     pub fn raise(&mut self, fid: Fid, length: u32)
         ensures files { self.new.files ≡ changed_at fid.0 (raised length) self.old.files }
         ensures room { KeepsRoom fid.0 self.old self.new }
@@ -129,7 +133,8 @@ impl Pointers {
         )
     }
 
-    /// Adds a file without blocks, in place of one with this number.
+    /// Adds a file of this version and length without blocks, in place of one with this number. Takes no memory where
+    /// there is room for it.
     pub fn load(&mut self, alloc: Global, fid: Fid, head: FileHead) -> Mem<()>
         ensures ok { OnOk result (self.new.files ≡ put fid.0 (file_of head []) self.old.files) }
         ensures err { OnErr result (self.new.files ≡ self.old.files) }
@@ -146,7 +151,7 @@ impl Pointers {
         Ok(())
     }
 
-    // Makes room for a file, if there is none.
+    // Makes room for a file where nothing is kept under its number.
     fn make_room(&mut self, alloc: Global, fid: Fid) -> Mem<()>
         ensures files { self.new.files ≡ self.old.files }
         ensures ok { OnOk result (HasRoom self.new fid.0 0) }
@@ -166,7 +171,8 @@ impl Pointers {
         Ok(())
     }
 
-    /// Makes room for so many new blocks of a file, and for adding it where it isn't there.
+    /// Makes room for so many new blocks of a file, and for adding it where it isn't there. The room of a file that is
+    /// never added stays until it is dropped.
     pub fn reserve(&mut self, alloc: Global, fid: Fid, blocks: u32) -> Mem<()>
         ensures files { self.new.files ≡ self.old.files }
         ensures ok { OnOk result (HasRoom self.new fid.0 blocks) }
@@ -181,7 +187,7 @@ impl Pointers {
         kept.reserve(blocks)
     }
 
-    /// Drops a file with its blocks, if it is there.
+    /// Drops a file with its blocks and its room, if it is there.
     pub fn drop_file(&mut self, fid: Fid)
         ensures files { self.new.files ≡ without fid.0 self.old.files }
         ensures others { SameRooms fid.0 self.old self.new }

@@ -1,3 +1,9 @@
+pub mod Changing
+pub mod Rooms
+pub mod Roomy
+pub mod Loops
+pub mod Drafting
+pub mod Going
 pub mod Raising
 pub mod Numbered
 pub mod Stripes

@@ -2,8 +2,17 @@
 //! whole or not at all.
 #![tactic(auto)]
 
+mod drafts;
 mod held;
 mod log;
 mod logs;
+mod manager;
+mod planning;
+mod prepared;
+mod reserving;
+mod work;
+mod working;
 
 pub use log::ReplyList;
+pub use manager::{Blocked, Manager};
+pub use prepared::Prepared;

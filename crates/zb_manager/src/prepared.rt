@@ -1,0 +1,19 @@
+use crate::log::ReplyList;
+use crate::work::Work;
+use zb_types::PieceList;
+use zb_types::LogId;
+
+/// A batch that can be committed without memory.
+#[derive(Drop)]
+pub struct Prepared {
+    /// The replies to its operations, in order; none for a clean.
+    pub replies: ReplyList,
+    /// How many blocks the cleaner moves.
+    pub copied: u32,
+    /// How many blocks it copied in vain.
+    pub rejected: u32,
+    pub(crate) log: LogId,
+    pub(crate) number: u64,
+    pub(crate) pieces: PieceList,
+    pub(crate) work: Work,
+}

@@ -1,0 +1,14 @@
+pub mod Below
+pub mod Each
+pub mod Blocks
+pub mod Ops
+pub mod Cleans
+pub mod Heads
+pub mod Merging
+pub mod Growing
+pub mod Holding
+pub mod Replaying
+pub mod Once
+pub mod Pointers
+pub mod Retiring
+pub mod Taken

@@ -6,6 +6,8 @@ mod batches;
 #[cfg(test)]
 mod blocks;
 #[cfg(test)]
+mod cache;
+#[cfg(test)]
 mod deltas;
 #[cfg(test)]
 mod logs;

@@ -2,6 +2,8 @@
 #![tactic(auto)]
 
 #[cfg(test)]
+mod conflict;
+#[cfg(test)]
 mod history;
 #[cfg(test)]
 mod names;

@@ -7,8 +7,7 @@ ghost use Rattle.zb_tables.specs.Fold.{is_movable};
 ghost use Rattle.zb_pointers.specs.Seen.{blocks_of, seen_head};
 ghost use Rattle.zb_conflict.specs.Table.{decided, is_set};
 
-/// What an entry of the journal does to the tables moves a block exactly where the conflict table sets it.
+/// An entry of the journal moves a block in the tables exactly where the conflict table sets it.
 pub fn table_moves_blocks()
-    ensures { (body : Body) (file : Option FileState)
-        → is_movable body file ≡ is_set (decided (Clean body) (seen_head file) (look body.block (blocks_of file))) }
+    ensures { (body : Body) (file : Option FileState) → is_movable body file ≡ is_set (decided (Clean body) (seen_head file) (look body.block (blocks_of file))) }
 {}

@@ -1,7 +1,7 @@
 use std::alloc::Global;
 use std::test::Fail;
 use zb_names::Names;
-use zb_types::{Fid, Path, Refusal};
+use zb_types::{Call, Fid, Path, Refusal};
 
 fn path(alloc: Global, text: &[u8]) -> Result<Path, Fail> {
     Ok(Path::parse(alloc, text)?.ok_or("no path")?)
@@ -9,7 +9,7 @@ fn path(alloc: Global, text: &[u8]) -> Result<Path, Fail> {
 
 fn text_of(alloc: Global, names: &Names) -> Result<Vec<u8>, Fail> {
     let mut text = Vec::new(alloc);
-    for (path, _) in &names.entries(alloc)? {
+    for (path, _) in names.entries() {
         text.extend_from_slice(path.slice())?;
         text.push(b' ')?;
     }
@@ -31,10 +31,31 @@ fn a_directory_is_renamed_with_what_lies_below(rt: HostRuntime) -> Result<(), Fa
     assert_eq!(rt; names.list(alloc, None)?.len(), 2);
     assert_eq!(rt; names.remove(&path(alloc, b"/b")?), Err(Refusal::NotEmpty));
     assert_eq!(rt; names.remove(&path(alloc, b"/b/x")?), Ok(Some(Fid(2))));
-    let same = Names::load(alloc, names.next(), &names.entries(alloc)?)?.ok_or("no tree")?;
+    let same = Names::load(alloc, names.next(), names.entries())?.ok_or("no tree")?;
     assert_eq!(rt;
         text_of(alloc, &same.copy(alloc)?)?.as_slice(),
         b"/a! /b ".as_slice()
     );
+    Ok(())
+}
+
+#[test]
+fn prepared_operations_are_carried_out(rt: HostRuntime) -> Result<(), Fail> {
+    let alloc = rt.alloc();
+    let mut names = Names::new(alloc)?;
+    let calls = [
+        Call::Mkdir(path(alloc, b"/a")?),
+        Call::Create(path(alloc, b"/a/x")?),
+        Call::Create(path(alloc, b"/a!")?),
+        Call::Rename(path(alloc, b"/a")?, path(alloc, b"/b")?),
+        Call::Remove(path(alloc, b"/a!")?),
+        Call::Sync,
+    ];
+    for call in &calls {
+        let prepared = names.prepare(alloc, call)?;
+        names.apply(prepared);
+    }
+    assert_eq!(rt; text_of(alloc, &names)?.as_slice(), b"/b /b/x ".as_slice());
+    assert_eq!(rt; names.next(), 3);
     Ok(())
 }

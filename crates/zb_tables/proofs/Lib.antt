@@ -3,5 +3,12 @@ pub mod Each
 pub mod Blocks
 pub mod Ops
 pub mod Cleans
+pub mod Heads
 pub mod Merging
-mod Heads
+pub mod Growing
+pub mod Holding
+pub mod Replaying
+pub mod Once
+pub mod Pointers
+pub mod Retiring
+pub mod Taken

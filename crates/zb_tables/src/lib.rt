@@ -5,6 +5,7 @@
 mod laws;
 
 pub use laws::{
-    batch_shows_updates, clean_leaves_files, clean_leaves_heads, current_lookup_merges,
-    tail_shows_again,
+    batch_shows_updates, clean_leaves_files, clean_leaves_heads, committed_bytes_decide,
+    current_lookup_merges, pointers_stay_in_what_is_held, replay_is_one, tail_shows_again,
+    taken_entries_are_replayed,
 };

@@ -1,0 +1,11 @@
+pub mod Missing
+pub mod Listed
+pub mod Delivering
+pub mod Staying
+pub mod Raising
+pub mod Rebasing
+pub mod Flushing
+pub mod Committing
+pub mod Changing
+pub mod Beginning
+pub mod Recovering

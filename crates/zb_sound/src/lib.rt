@@ -1,0 +1,14 @@
+//! What standing platters are for, and what each thing that a system does leaves of it: requests of a flush, entries of
+//! the journal, a server that is lost or rebuilt. All at one choice of the platters' images, over plain values.
+//! Definitions and their laws alone.
+#![tactic(auto)]
+
+mod changes;
+mod commits;
+mod flushes;
+mod recovery;
+
+pub use changes::{changes_keep, contents_may_grow, finish_keeps};
+pub use commits::{clean_leaves_tree, commit_may_be_cut_off, commit_takes_tree, flush_is_flushed};
+pub use flushes::{changes_leave_a_flush, flush_at_work, flush_stays, requests_beside_keep};
+pub use recovery::{first_platters_stand, sound_recovers};

@@ -2,6 +2,7 @@
 //! whole or not at all.
 #![tactic(auto)]
 
+mod cleaning;
 mod drafts;
 mod held;
 mod log;

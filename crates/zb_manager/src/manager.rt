@@ -12,7 +12,8 @@ ghost use Rattle.zb_manager.specs.Plans.{IsMovePlan, IsWork, Plans, worn_field};
 ghost use Rattle.zb_manager.specs.Managers.{IsFreeFor, SameBesides, SameTables, sizes_of};
 ghost use Rattle.zb_manager.specs.Seen.{IsPrepared, IsReady, last_in, pointers_of, prepared_tables, with_members, with_work};
 
-use crate::drafts::{Draft, StaleOp};
+use crate::drafts::{StaleOp, plan_files};
+use crate::cleaning::plan_moves;
 use crate::held::HeldTable;
 use crate::log::ReplyList;
 use crate::logs::LogTable;
@@ -83,61 +84,6 @@ impl Model for Manager {
     ghost view = { λ a. seen_manager a.sizes a.names a.pointers a.logs a.held a.members a.next_log a.next_entry a.holder };
 
     ghost invariant = { λ a. IsManager a.sizes a.pointers a.logs a.next_log a.next_entry };
-}
-
-// Moves of the cleaner.
-fn plan_moves(alloc: Global, pointers: &Pointers, deltas: &DeltaList) -> Mem<Plan>
-    ensures { IfOk result (IsMovePlan pointers.now.files deltas.now) }
-{
-    let mut places: BTreeMap<(u32, u32), Ptr> = BTreeMap::new(alloc);
-    let mut copied: u32 = 0;
-    let mut rejected: u32 = 0;
-    for delta in deltas.slice() {
-        let Delta::Clean(body) = delta else {
-            continue;
-        };
-        let key = (body.fid.0, body.block);
-        let table = match places.get(&key) {
-            Some(ptr) => Some(*ptr),
-            None => pointers.block(body.fid, body.block),
-        };
-        match decide(delta, pointers.find(body.fid), table) {
-            Decision::Set => {
-                places.insert(key, body.now)?;
-                copied += 1;
-            }
-            _ => rejected += 1,
-        }
-    }
-    Ok(Plan {
-        work: Work::Move(deltas.copy(alloc)?),
-        replies: ReplyList::new(alloc)?,
-        copied,
-        rejected,
-        worn: false,
-    })
-}
-
-// Writes, truncations and syncs.
-fn plan_files(alloc: Global, pointers: &Pointers, ops: &[Op]) -> Mem<Result<Plan, StaleOp>>
-    requires { AllByRecursion IsFileOp ops.now }
-    ensures { (s : Shelf) → s.files ≡ pointers.now.files → s.replies ≡ [] → IfOk result (Plans pointers.now.block s ops.now) }
-{
-    let mut draft = Draft::new(alloc)?;
-    let mut rest = ops;
-    while let Some((op, others)) = rest.split_first() {
-        if let Some(stale) = draft.op(alloc, pointers, op)? {
-            return Ok(Err(stale));
-        }
-        rest = others;
-    }
-    Ok(Ok(Plan {
-        work: Work::Files(draft.steps),
-        replies: draft.replies,
-        copied: 0,
-        rejected: 0,
-        worn: draft.worn,
-    }))
 }
 
 // The first piece in a stripe below the mark.

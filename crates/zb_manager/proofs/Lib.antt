@@ -4,6 +4,8 @@ pub mod Roomy
 pub mod Loops
 pub mod Drafting
 pub mod Going
+pub mod Carrying
+pub mod Naming
 pub mod Raising
 pub mod Numbered
 pub mod Stripes

@@ -15,6 +15,7 @@ use Rattle.zb_manager.specs.declared.drafts.Draft.{Draft}
 use Rattle.zb_manager.specs.declared.drafts.StaleOp.{StaleOp}
 use Rattle.zb_manager.specs.Works.{all_stepped}
 
+-- a write, a truncation or a sync
 abbrev pub IsFileOp : Op → Type 0
 IsFileOp (Name call what) = ⊥
 IsFileOp (Write call fid version offset len deltas) = Unit {0}
@@ -36,6 +37,7 @@ head_in (e ∷ es) fid head = head_in es fid (if (e.0).0 == fid then Some e.1 el
 abbrev pub Leads : List (Fid × FileHead) → Files → Files → Type 0
 Leads changes old new = (fid : ℕ) → seen_head (look fid new) ≡ head_in changes fid (seen_head (look fid old))
 
+-- a file's next version, with this length
 abbrev pub next_head : FileHead → ℕ → FileHead
 next_head old size = record { version = risen old.version; length = size }
 
@@ -45,6 +47,7 @@ pub record IsDraft (b : ℕ) (files : Files) (draft : Draft) (s : Shelf) : Type 
   pub steps : all_stepped b draft.steps files ≡ s.files
   pub replies : draft.replies ≡ s.replies
 
+-- the first stale operation, as the tables tell of it
 abbrev pub is_stale : StaleOp → Stale
 is_stale stale = record { fid = stale.fid; seen = stale.seen; now = stale.now }
 

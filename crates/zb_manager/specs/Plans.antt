@@ -4,7 +4,8 @@ use Rattle.std.specs.List.{AllByRecursion}
 use Rattle.zb_types.specs.declared.calls.Call.{Call}
 use Rattle.zb_types.specs.declared.calls.Reply.{Reply}
 use Rattle.zb_types.specs.declared.calls.Refusal.{Refusal}
-use Rattle.zb_types.specs.Names.{Names}
+use Rattle.zb_types.specs.Names.{Names, Change, same, makes, drops}
+use Rattle.zb_names.specs.Changing.{Changed}
 use Rattle.zb_batch.specs.declared.batch.Op.{Op}
 use Rattle.zb_batch.specs.declared.batch.Op.TheVariants.{Name, Write, Cut, Sync, Clean}
 use Rattle.zb_batch.specs.Batches.{IsNameCall}
@@ -12,12 +13,12 @@ use Rattle.zb_delta.specs.declared.delta.Delta.{Delta}
 use Rattle.zb_tables.specs.Tables.{last_value}
 use Rattle.zb_tables.specs.Fold.{Files, Shelf, named, done_ops}
 use Rattle.zb_manager.specs.declared.work.Work.{Work}
-use Rattle.zb_manager.specs.declared.work.Work.TheVariants.{Move}
+use Rattle.zb_manager.specs.declared.work.Work.TheVariants.{Remove, Rename, Move}
 use Rattle.zb_tables.specs.Taking.{any_wears}
 use Rattle.zb_manager.specs.declared.planning.Plan.{Plan}
 use Rattle.zb_manager.specs.declared.drafts.StaleOp.{StaleOp}
 use Rattle.zb_manager.specs.Drafts.{IsFileOp, is_stale}
-use Rattle.zb_manager.specs.Works.{names_worked, files_worked, MayWork, copied}
+use Rattle.zb_manager.specs.Works.{names_worked, files_worked, MayWork, copied, movable_of}
 use Rattle.zb_manager.specs.Seen.{moves_of}
 
 -- names, files and replies once a plan is carried out
@@ -39,8 +40,15 @@ Plans b s ops (Err stale) = done_ops b ops s ≡ Err (is_stale stale)
 
 -- Operations on names.
 
+-- the plan of one operation that has this reply
 abbrev pub name_plan : Work → Reply → Plan
 name_plan work reply = record { work = work; replies = reply ∷ []; copied = 0; rejected = 0; worn = false }
+
+-- what a removal does to names and files, by what becomes of the files
+abbrev pub removal : Changed → Change → Work
+removal change same = Rename change
+removal change (makes number) = Rename change
+removal change (drops number) = Remove change (record { 0 = number })
 
 -- a plan is that of this operation on names, which is refused for this reason or for none
 pub record IsNamePlan (names : Names) (call : Call) (refusal : Option Refusal) (p : Plan) : Type 0 where
@@ -51,8 +59,9 @@ pub record IsNamePlan (names : Names) (call : Call) (refusal : Option Refusal) (
 
 -- Moves by the cleaner.
 
+-- a plan is that of these moves: those that are carried out, and how many are and aren't
 pub record IsMovePlan (files : Files) (deltas : List Delta) (p : Plan) : Type 0 where
-  pub work : p.work ≡ Move deltas
+  pub work : p.work ≡ Move (movable_of deltas files)
   pub replies : p.replies ≡ []
   pub worn : p.worn ≡ false
   pub copied_is : p.copied ≡ copied deltas files

@@ -1,5 +1,5 @@
 -- What a batch does to names and files, once nothing refuses it.
-use Rattle.std.specs.Prelude.{◌≡◌, ℕ, ◌+◌, ◌==◌, Bool, not, if◌then◌else◌, List, [], ◌∷◌, length, is_some, Option, Some, None}
+use Rattle.std.specs.Prelude.{◌≡◌, ℕ, ◌+◌, ◌==◌, Bool, not, if◌then◌else◌, List, [], ◌∷◌, ◌++◌, length, is_some, Option, Some, None}
 use Rattle.zb_types.specs.Keyed.{put, without}
 use Rattle.zb_types.specs.Names.{Names}
 use Rattle.zb_names.specs.Changing.{MayCarry, carried}
@@ -18,14 +18,17 @@ use Rattle.zb_manager.specs.declared.work.Work.TheVariants.{Nothing, Add, Remove
 abbrev pub set_blocks : List Delta → FileState → FileState
 set_blocks deltas file = with_blocks (set_all deltas file.blocks) file
 
+-- the files after one step
 abbrev pub stepped : ℕ → Step → Files → Files
 stepped b (Raise fid end deltas) files = changed_at fid.0 (after_write end deltas) files
 stepped b (Shorten fid size deltas) files = changed_at fid.0 (after_cut b size deltas) files
 
+-- the files after some steps
 abbrev pub all_stepped : ℕ → List Step → Files → Files
 all_stepped b [] files = files
 all_stepped b (s ∷ ss) files = all_stepped b ss (stepped b s files)
 
+-- the names once the work is done
 abbrev pub names_worked : Work → Names → Names
 names_worked Nothing names = names
 names_worked (Add change fid) names = carried change names
@@ -34,6 +37,7 @@ names_worked (Rename change) names = carried change names
 names_worked (FileSteps steps) names = names
 names_worked (Move deltas) names = names
 
+-- the files once the work is done
 abbrev pub files_worked : ℕ → Work → Files → Files
 files_worked b Nothing files = files
 files_worked b (Add change fid) files = put fid.0 new_file files
@@ -51,11 +55,20 @@ MayWork (Rename change) names = MayCarry change names
 MayWork (FileSteps steps) names = Unit {0}
 MayWork (Move deltas) names = Unit {0}
 
--- How many moves by the cleaner are carried out.
+-- Moves by the cleaner.
 
+-- a move by itself, if the file is there and the block stands where it stood
+abbrev pub one_movable : Delta → Files → List Delta
+one_movable d files = if is_movable (body_of d) (look (body_of d).fid.0 files) then d ∷ [] else []
+
+-- the moves that are carried out, each on the files as those before leave them
+abbrev pub movable_of : List Delta → Files → List Delta
+movable_of [] files = []
+movable_of (d ∷ ds) files = one_movable d files ++ movable_of ds (moved (body_of d) files)
+
+-- how many moves are carried out
 abbrev pub copied : List Delta → Files → ℕ
-copied [] files = 0
-copied (d ∷ ds) files = (if is_movable (body_of d) (look (body_of d).fid.0 files) then 1 else 0) + copied ds (moved (body_of d) files)
+copied deltas files = length (movable_of deltas files)
 
 -- Room.
 
@@ -101,8 +114,8 @@ abbrev pub HasRoomFor : SeenPointers → ℕ → ℕ → Type 0
 HasRoomFor s fid count = (count ≡ 0 → ⊥) → HasRoom s fid count
 
 -- what one call leaves of the room of each file
-abbrev pub KeepsRoom : SeenPointers → SeenPointers → (ℕ → ℕ) → Type 0
-KeepsRoom old new used = (fid n : ℕ) → HasRoomFor old fid (used fid + n) → HasRoomFor new fid n
+abbrev pub LeavesRoom : SeenPointers → SeenPointers → (ℕ → ℕ) → Type 0
+LeavesRoom old new used = (fid n : ℕ) → HasRoomFor old fid (used fid + n) → HasRoomFor new fid n
 
 -- there is the room that the work needs
 abbrev pub RoomForWork : SeenPointers → Work → Type 0

@@ -1,8 +1,9 @@
 ghost use Rattle.std.specs.Prelude.{◌≡◌, [], ◌∷◌, None, Some, false, IfOk, length};
-ghost use Rattle.zb_types.specs.Names.{name_effect, name_refusal};
+ghost use Rattle.zb_types.specs.declared.calls.Call.TheVariants.{Remove};
+ghost use Rattle.zb_types.specs.Names.{name_change, name_effect, name_refusal};
 ghost use Rattle.zb_batch.specs.Batches.{IsNameCall};
 ghost use Rattle.zb_names.specs.Changing.{MayCarry, carried};
-ghost use Rattle.zb_manager.specs.Plans.{IsNamePlan, name_plan};
+ghost use Rattle.zb_manager.specs.Plans.{IsNamePlan, name_plan, removal};
 
 use crate::log::ReplyList;
 use crate::work::Work;
@@ -36,10 +37,13 @@ fn make_name_plan(alloc: Global, work: Work, reply: Reply) -> Mem<Plan>
 }
 
 // What a removal that nothing refuses does: a file goes with its entry.
-fn removal(names: &Names, path: &Path, change: NameChange) -> Work {
+fn removal(names: &Names, path: &Path, change: NameChange) -> Work
+    requires { name_refusal names.now (Remove path.now) ≡ None }
+    ensures { result ≡ removal change (name_change names.now (Remove path.now)) }
+{
     match names.resolve(path) {
         Ok(Entry::File(fid)) => Work::Remove { change, fid },
-        _ => Work::Rename { change },
+        Ok(Entry::Dir) | Err(_) => Work::Rename { change },
     }
 }
 

@@ -5,7 +5,7 @@ pub mod Loops
 pub mod Drafting
 pub mod Going
 pub mod Carrying
-pub mod Naming
+pub mod Planned
 pub mod Raising
 pub mod Numbered
 pub mod Stripes

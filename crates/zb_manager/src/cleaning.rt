@@ -85,7 +85,8 @@ impl Cleaning {
 
 // The moves that are carried out, each on the files as those before leave them.
 fn movable(alloc: Global, pointers: &Pointers, deltas: &[Delta]) -> Mem<DeltaList>
-    ensures { IfOk result (λ moves. moves ≡ movable_of deltas.now pointers.now.files) }
+    ensures moves { IfOk result (λ moves. moves ≡ movable_of deltas.now pointers.now.files) }
+    ensures few { IfOk result (λ moves. length moves ≤ length deltas.now) }
 {
     let mut cleaning = Cleaning {
         places: BTreeMap::new(alloc),

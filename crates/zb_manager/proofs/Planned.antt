@@ -1,17 +1,20 @@
 -- The plan of each kind of batch is that of its operations.
 use Rattle.std.proofs.Common.{◌≡◌, ℕ, ◌+◌, List, [], ◌∷◌, length, refl, sym, ap, ◌∙◌, subst}
-use Rattle.std.specs.Prelude.{Result, Ok, Err}
+use Rattle.std.specs.Prelude.{Ok}
+use Rattle.std.specs.List.{AllByRecursion}
 use Rattle.zb_types.specs.declared.calls.Call.{Call}
 use Rattle.zb_types.specs.Names.{name_refusal}
 use Rattle.zb_batch.specs.declared.batch.Op.{Op}
-use Rattle.zb_batch.specs.declared.batch.Op.TheVariants.{Name, Clean}
+use Rattle.zb_batch.specs.declared.batch.Op.TheVariants.{Name, Write, Cut, Sync, Clean}
+use Rattle.zb_batch.specs.Batches.{IsNameCall}
 use Rattle.zb_delta.specs.declared.delta.Delta.{Delta}
-use Rattle.zb_tables.specs.Fold.{Shelf, Stale}
+use Rattle.zb_tables.specs.Fold.{Shelf}
 use Rattle.zb_manager.specs.declared.planning.Plan.{Plan}
 use Rattle.zb_manager.specs.declared.work.Work.{Work}
 use Rattle.zb_manager.specs.declared.work.Work.TheVariants.{Move}
 use Rattle.zb_manager.specs.Works.{names_worked, files_worked, MayWork, movable_of}
-use Rattle.zb_manager.specs.Plans.{IsPlan, IsNamePlan, IsMovePlan, planned_shelf}
+use Rattle.zb_manager.specs.Plans.{IsPlan, IsNamePlan, IsMovePlan, IsWork}
+use Rattle.zb_manager.specs.Drafts.{IsFileOp}
 use Rattle.zb_manager.proofs.Carrying.{movable_moves}
 
 -- an operation on names
@@ -36,3 +39,27 @@ moves_planned b s deltas p none is =
       copied_is = is.copied_is;
       rejected_is = is.rejected_is;
     }
+
+-- ---- what the first operation tells of the others
+
+-- an operation on names stands alone
+pub name_alone : (call : ℕ) (what : Call) (others : List Op) → IsWork (Name call what ∷ others) → others ≡ []
+name_alone call what [] work = refl
+name_alone call what (o ∷ os) work = absurd work.0
+
+pub name_call : (call : ℕ) (what : Call) (others : List Op) → IsWork (Name call what ∷ others) → IsNameCall what
+name_call call what [] work = work
+name_call call what (o ∷ os) work = absurd work.0
+
+-- a clean stands alone
+pub clean_alone : (deltas : List Delta) (others : List Op) → IsWork (Clean deltas ∷ others) → others ≡ []
+clean_alone deltas [] work = refl
+clean_alone deltas (o ∷ os) work = absurd work.0
+
+-- others stand among others
+pub all_on_files : (o : Op) (others : List Op) → IsFileOp o → IsWork (o ∷ others) → AllByRecursion IsFileOp (o ∷ others)
+all_on_files (Write call fid version offset len deltas) others file work = work
+all_on_files (Cut call fid version size deltas) others file work = work
+all_on_files (Sync call) others file work = work
+all_on_files (Name call what) others file work = absurd file
+all_on_files (Clean deltas) others file work = absurd file

@@ -165,10 +165,13 @@ impl Manager {
         requires { IsWork ops.now }
         ensures { IfOk result (Plans self.now.sizes.block (shelf_of self.now.tables) ops.now) }
     {
-        match ops {
-            [Op::Name { what, .. }] => Ok(Ok(plan_name(alloc, &self.names, what)?)),
-            [Op::Clean { deltas }] => Ok(Ok(plan_moves(alloc, &self.pointers, deltas)?)),
-            _ => plan_files(alloc, &self.pointers, ops),
+        let Some((first, _)) = ops.split_first() else {
+            return plan_files(alloc, &self.pointers, ops);
+        };
+        match first {
+            Op::Name { what, .. } => Ok(Ok(plan_name(alloc, &self.names, what)?)),
+            Op::Clean { deltas } => Ok(Ok(plan_moves(alloc, &self.pointers, deltas)?)),
+            Op::Write { .. } | Op::Cut { .. } | Op::Sync { .. } => plan_files(alloc, &self.pointers, ops),
         }
     }
 

@@ -1,12 +1,13 @@
 -- The plan of each kind of batch is that of its operations.
-use Rattle.std.proofs.Common.{◌≡◌, ℕ, ◌+◌, List, [], ◌∷◌, length, refl, sym, ap, ◌∙◌, subst}
-use Rattle.std.specs.Prelude.{Ok}
-use Rattle.std.specs.List.{AllByRecursion}
+use Rattle.std.proofs.Common.{◌≡◌, ℕ, ◌+◌, true, List, [], ◌∷◌, length, refl, sym, ap, ◌∙◌, subst}
+use Rattle.std.specs.Prelude.{Ok, IsTrue, not, nat_le}
+use Rattle.std.specs.List.{AllByRecursion, list_all}
+use Rattle.std.proofs.lemmas.Bool.{and_parts, false≢true}
 use Rattle.zb_types.specs.declared.calls.Call.{Call}
 use Rattle.zb_types.specs.Names.{name_refusal}
 use Rattle.zb_batch.specs.declared.batch.Op.{Op}
 use Rattle.zb_batch.specs.declared.batch.Op.TheVariants.{Name, Write, Cut, Sync, Clean}
-use Rattle.zb_batch.specs.Batches.{IsNameCall}
+use Rattle.zb_batch.specs.Batches.{IsNameCall, IsOp, is_alone, is_company}
 use Rattle.zb_delta.specs.declared.delta.Delta.{Delta}
 use Rattle.zb_tables.specs.Fold.{Shelf}
 use Rattle.zb_manager.specs.declared.planning.Plan.{Plan}
@@ -63,3 +64,32 @@ all_on_files (Cut call fid version size deltas) others file work = work
 all_on_files (Sync call) others file work = work
 all_on_files (Name call what) others file work = absurd file
 all_on_files (Clean deltas) others file work = absurd file
+
+-- ---- what a batch that can be spelled gives
+
+-- none of them stands alone
+none_alone : (ops : List Op) → list_all (λ o. not (is_alone o)) ops ≡ true → AllByRecursion IsFileOp ops
+none_alone [] all = tt
+none_alone (Name call what ∷ os) all = absurd (false≢true all)
+none_alone (Write call fid version offset len deltas ∷ os) all = (tt, none_alone os all)
+none_alone (Cut call fid version size deltas ∷ os) all = (tt, none_alone os all)
+none_alone (Sync call ∷ os) all = (tt, none_alone os all)
+none_alone (Clean deltas ∷ os) all = absurd (false≢true all)
+
+among_others : (o next : Op) (others : List Op) → AllByRecursion IsFileOp (o ∷ (next ∷ others)) → IsWork (o ∷ (next ∷ others))
+among_others (Name call what) next others all = all
+among_others (Write call fid version offset len deltas) next others all = all
+among_others (Cut call fid version size deltas) next others all = all
+among_others (Sync call) next others all = all
+among_others (Clean deltas) next others all = all
+
+-- the operations of a batch are of one kind
+pub batch_work : (ops : List Op) → IsTrue (is_company ops) → AllByRecursion IsOp ops → IsWork ops
+batch_work [] company all = tt
+batch_work (Name call what ∷ []) company all = all.0.shaped
+batch_work (Write call fid version offset len deltas ∷ []) company all = (tt, tt)
+batch_work (Cut call fid version size deltas ∷ []) company all = (tt, tt)
+batch_work (Sync call ∷ []) company all = (tt, tt)
+batch_work (Clean deltas ∷ []) company all = tt
+batch_work (o ∷ (next ∷ others)) company all =
+    among_others o next others (none_alone (o ∷ (next ∷ others)) (and_parts (nat_le (length (o ∷ (next ∷ others))) 8) (list_all (λ q. not (is_alone q)) (o ∷ (next ∷ others))) company).1)

@@ -1,9 +1,10 @@
-ghost use Rattle.std.specs.Prelude.{◌≡◌, ◌-◌, ℕ, max, ◌<◌, ◌≤◌, [], ◌∷◌, ◌++◌, All, length, map, option_map, OnOk};
+ghost use Rattle.std.specs.Prelude.{◌≡◌, ◌-◌, ℕ, max, ◌<◌, ◌≤◌, [], ◌∷◌, ◌++◌, All, length, map, option_map, IfOk, OnOk};
 ghost use Rattle.std.specs.Option.{option_copied};
 ghost use Rattle.std.specs.Map.{keys_of};
 ghost use Rattle.std.specs.List.{AllByRecursion};
 ghost use Rattle.zb_types.specs.Keyed.{look, changed};
 ghost use Rattle.zb_tables.specs.Fold.{ended, following as stripe_behind, kept_logs, last_of as last_with, marked, new_log, with_batch};
+ghost use Rattle.zb_tables.specs.Finding.{use_of};
 ghost use Rattle.zb_manager.specs.declared.log.Log.{Log};
 ghost use Rattle.zb_manager.specs.Logs.{IsLast, IsPlace, StripeFits, ended_log, marked_log, state_of, states_of};
 
@@ -11,7 +12,7 @@ use crate::held::HeldTable;
 use crate::log::{Log, ReplyList};
 use std::alloc::Global;
 use std::marker::Model;
-use zb_types::{LogId, Mem, NoMemory, Piece, State};
+use zb_types::{LogId, LogUse, LogUseList, Mem, NoMemory, Piece};
 
 // The stripe behind a log's last committed one.
 fn following(last: Option<u64>) -> u64
@@ -83,6 +84,31 @@ fn mark_all(logs: &mut [Log])
     for log in logs.iter_mut() {
         mark_one(log);
     }
+}
+
+// A log, as a status tells it.
+fn use_of(log: &Log) -> LogUse
+    ensures { result ≡ use_of (log.now.number, state_of log.now) }
+{
+    LogUse {
+        log: LogId(log.number),
+        live: log.live,
+        last: log.last,
+        batch: log.batch,
+    }
+}
+
+// Logs, as a status tells them.
+fn uses_of(alloc: Global, logs: &[Log]) -> Mem<LogUseList>
+    ensures { IfOk result (λ uses. uses ≡ map use_of (states_of logs.now)) }
+{
+    let mut uses = LogUseList::new(alloc)?;
+    let mut rest = logs;
+    while let Some((log, others)) = rest.split_first() {
+        uses.push(use_of(log))?;
+        rest = others;
+    }
+    Ok(uses)
 }
 
 /// Logs by number, with room for more.
@@ -216,9 +242,10 @@ impl LogTable {
         found.replies = replies;
     }
 
-    pub(crate) fn slice(&self) -> &[Log]
-        ensures { states_of result.now ≡ self.now.logs }
+    /// The logs, as a status tells them.
+    pub(crate) fn uses(&self, alloc: Global) -> Mem<LogUseList>
+        ensures { IfOk result (λ uses. uses ≡ map use_of self.now.logs) }
     {
-        &self.logs
+        uses_of(alloc, &self.logs)
     }
 }

@@ -403,19 +403,10 @@ impl Manager {
     pub fn status(&self, alloc: Global) -> Mem<Status>
         ensures { IfOk result (λ s. s ≡ status self.now.tables) }
     {
-        let mut logs = LogUseList::new(alloc)?;
-        for log in self.logs.slice() {
-            logs.push(LogUse {
-                log: LogId(log.number),
-                live: log.live,
-                last: log.last,
-                batch: log.batch,
-            })?;
-        }
         Ok(Status {
             next: self.next_log,
             members: self.members,
-            logs,
+            logs: self.logs.uses(alloc)?,
             held: HeldList::from_slice(alloc, self.held.slice())?,
         })
     }

@@ -1,18 +1,17 @@
 -- What an operation on a file comes to, and the draft behind it.
-use Rattle.std.proofs.Common.{◌≡◌, ℕ, Bool, true, false, eqb, List, [], ◌∷◌, ◌++◌, Option, Some, None, refl, sym, ap, ◌∙◌, subst, inl, inr, arith}
-use Rattle.std.specs.Prelude.{if◌then◌else◌, ◌==◌, ◌&&◌, ◌||◌, nat_lt, nat_le, is_some, Result, Ok, Err, IfOk, OnOk}
-use Rattle.std.proofs.lemmas.Bool.{cases_eq, cases_Bool, eq-eqb, ne_eqb}
+use Rattle.std.proofs.Common.{◌≡◌, ℕ, Bool, true, false, List, [], ◌∷◌, ◌++◌, Option, Some, None, refl, sym, ap, ◌∙◌, subst, inl, inr, arith}
+use Rattle.std.specs.Prelude.{if◌then◌else◌, ◌==◌, ◌||◌, nat_lt, is_some, Result, Ok, Err, IfOk, OnOk}
+use Rattle.std.proofs.lemmas.Bool.{cases_eq, eq-eqb, ne_eqb}
 use Rattle.std.proofs.lemmas.Bool.Decides.{nat_tests}
 use Rattle.zb_types.specs.declared.ids.Fid.{Fid}
 use Rattle.zb_types.specs.declared.calls.Reply.{Reply}
 use Rattle.zb_types.specs.declared.calls.Reply.TheVariants.{Done, Refused}
-use Rattle.zb_types.specs.declared.calls.Refusal.{Refusal}
 use Rattle.zb_types.specs.declared.calls.Refusal.TheVariants as why
 use Rattle.zb_types.specs.Keyed.{look, replaced}
 use Rattle.zb_types.specs.Apply.{max_file}
 use Rattle.zb_types.proofs.KeyedLists.{look-replaced_same, look-replaced_other}
 use Rattle.zb_tables.specs.Tables.{FileState, last_value}
-use Rattle.zb_tables.specs.Fold.{Files, Shelf, Stale, replied, with_file, resized}
+use Rattle.zb_tables.specs.Fold.{Files, Shelf, replied, with_file, resized}
 use Rattle.zb_tables.specs.Taking.{is_worn}
 use Rattle.zb_pointers.specs.declared.head.FileHead.{FileHead}
 use Rattle.zb_pointers.specs.Seen.{seen_head, change_in, changed_at}
@@ -22,7 +21,7 @@ use Rattle.zb_manager.specs.declared.drafts.Draft.{Draft}
 use Rattle.zb_manager.specs.declared.work.Step.{Step}
 use Rattle.zb_manager.specs.Works.{stepped, all_stepped}
 use Rattle.zb_manager.specs.declared.drafts.StaleOp.{StaleOp}
-use Rattle.zb_manager.specs.Drafts.{judged, head_in, Leads, IsDraft, Drafts, next_head}
+use Rattle.zb_manager.specs.Drafts.{judged, head_in, IsDraft, Drafts, next_head}
 
 module _ (s : Shelf) (fid : Fid) (version end : ℕ) (f : FileState → FileState) where
   pub record FitsIn (o : Option FileState) (head : FileHead) : Type 0 where
@@ -48,8 +47,11 @@ module _ (s : Shelf) (fid : Fid) (version end : ℕ) (f : FileState → FileStat
   -- by the two tests
   by_tests : (file : FileState) (v big : Bool) → (version == file.version) ≡ v → nat_lt max_file end ≡ big
       → Outcome (Some file) (if v then (if big then TooBig else Fits (record { version = file.version; length = file.length })) else StaleVersion file.version)
-  by_tests file true true e b = (ap (λ z. if z then (if nat_lt max_file end then Ok (replied s (Refused why.TooBig)) else Ok (with_file s fid (f file))) else Err (record { fid = fid; seen = version; now = file.version })) e
-      ∙ ap (λ z. if z then Ok (replied s (Refused why.TooBig)) else Ok (with_file s fid (f file))) b, not_worn file b)
+  by_tests file true true e b = (
+    ap (λ z. if z then (if nat_lt max_file end then Ok (replied s (Refused why.TooBig)) else Ok (with_file s fid (f file))) else Err (record { fid = fid; seen = version; now = file.version })) e
+        ∙ ap (λ z. if z then Ok (replied s (Refused why.TooBig)) else Ok (with_file s fid (f file))) b,
+    not_worn file b,
+  )
   by_tests file true false e b = record {
     file = file;
     is = refl;
@@ -149,7 +151,9 @@ module _ (b : ℕ) (files : Files) (old : Draft) (s : Shelf) (is : IsDraft b fil
         → new.heads.items ≡ old.heads.items ++ (fid, next_head head size) ∷ [] → new.steps ≡ old.steps ++ step ∷ [] → new.replies ≡ old.replies ++ Done ∷ []
         → new.worn ≡ (old.worn || head.version == last_value)
         → Drafts b files old new (is_worn end Here) (resized s fid version end f Here) None
-    resized_drafts new head size step out heads_are step_is heads steps replies worn =
-        (with_file s fid (f out.file), out.done,
-        resized_draft b files old new s is fid out.file (f out.file) (next_head head size) step out.is heads steps replies (heads_are out.file out.head_is) (step_is ∙ step_there fid.0 f s.files out.file out.is),
-        worn ∙ ap (λ h. old.worn || h.version == last_value) out.head_is ∙ sym (ap (λ w. old.worn || w) out.worn))
+    resized_drafts new head size step out heads_are step_is heads steps replies worn = (
+      with_file s fid (f out.file),
+      out.done,
+      resized_draft b files old new s is fid out.file (f out.file) (next_head head size) step out.is heads steps replies (heads_are out.file out.head_is) (step_is ∙ step_there fid.0 f s.files out.file out.is),
+      worn ∙ ap (λ h. old.worn || h.version == last_value) out.head_is ∙ sym (ap (λ w. old.worn || w) out.worn),
+    )

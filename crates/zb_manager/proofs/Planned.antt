@@ -12,8 +12,7 @@ use Rattle.zb_delta.specs.declared.delta.Delta.{Delta}
 use Rattle.zb_tables.specs.Fold.{Shelf}
 use Rattle.zb_manager.specs.declared.planning.Plan.{Plan}
 use Rattle.zb_manager.specs.declared.work.Work.{Work}
-use Rattle.zb_manager.specs.declared.work.Work.TheVariants.{Move}
-use Rattle.zb_manager.specs.Works.{names_worked, files_worked, MayWork, movable_of}
+use Rattle.zb_manager.specs.Works.{names_worked, files_worked, MayWork}
 use Rattle.zb_manager.specs.Plans.{IsPlan, IsNamePlan, IsMovePlan, IsWork}
 use Rattle.zb_manager.specs.Drafts.{IsFileOp}
 use Rattle.zb_manager.proofs.Carrying.{movable_moves}

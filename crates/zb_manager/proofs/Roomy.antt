@@ -85,10 +85,13 @@ record Fresh (fid : ℕ) (deltas : List Delta) : Type 0 where
 
 by_one : (fid : ℕ) (d : Delta) → (moves_by fid d ≡ 0 → ⊥) → ((body_of d).fid.0 ≡ fid) × (is_fresh d ≡ true)
 by_one fid d some = elim (cases_eq (body_of d).fid.0 fid) as (λ _. ((body_of d).fid.0 ≡ fid) × (is_fresh d ≡ true)) [
-  | inl e ↦ (e, elim (cases_Bool (is_fresh d)) as (λ _. is_fresh d ≡ true) [
-    | inl t ↦ t
-    | inr f ↦ absurd (some (ap (λ (b : Bool). if b then one_if (is_fresh d) else 0) (eq-eqb (body_of d).fid.0 fid e) ∙ ap one_if f))
-  ])
+  | inl e ↦ (
+    e,
+    elim (cases_Bool (is_fresh d)) as (λ _. is_fresh d ≡ true) [
+      | inl t ↦ t
+      | inr f ↦ absurd (some (ap (λ (b : Bool). if b then one_if (is_fresh d) else 0) (eq-eqb (body_of d).fid.0 fid e) ∙ ap one_if f))
+    ],
+  )
   | inr ne ↦ absurd (some (ap (λ (b : Bool). if b then one_if (is_fresh d) else 0) (ne_eqb (body_of d).fid.0 fid ne)))
 ]
 

@@ -7,7 +7,7 @@ use Rattle.zb_types.specs.declared.calls.Refusal.{Refusal}
 use Rattle.zb_types.specs.Names.{Names, Change, same, makes, drops}
 use Rattle.zb_names.specs.Changing.{Changed}
 use Rattle.zb_batch.specs.declared.batch.Op.{Op}
-use Rattle.zb_batch.specs.declared.batch.Op.TheVariants.{Name, Write, Cut, Sync, Clean}
+use Rattle.zb_batch.specs.declared.batch.Op.TheVariants.{Name, Clean}
 use Rattle.zb_batch.specs.Batches.{IsNameCall}
 use Rattle.zb_delta.specs.declared.delta.Delta.{Delta}
 use Rattle.zb_tables.specs.Tables.{last_value}

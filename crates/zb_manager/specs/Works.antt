@@ -1,5 +1,5 @@
 -- What a batch does to names and files, once nothing refuses it.
-use Rattle.std.specs.Prelude.{◌≡◌, ℕ, ◌+◌, ◌==◌, Bool, not, if◌then◌else◌, List, [], ◌∷◌, ◌++◌, length, is_some, Option, Some, None}
+use Rattle.std.specs.Prelude.{◌≡◌, ℕ, ◌+◌, ◌==◌, Bool, not, if◌then◌else◌, List, [], ◌∷◌, ◌++◌, length, is_some}
 use Rattle.zb_types.specs.Keyed.{put, without}
 use Rattle.zb_types.specs.Names.{Names}
 use Rattle.zb_names.specs.Changing.{MayCarry, carried}

@@ -1,4 +1,4 @@
-use Rattle.std.proofs.Common.{◌≤◌, List, length, sym, subst, refl}
+use Rattle.std.proofs.Common.{◌≤◌, List, length, sym, subst}
 use Rattle.zb_delta.specs.declared.delta.Delta.{Delta}
 use Rattle.zb_manager.proofs.Loops.{none_left}
 use Rattle.zb_manager.proofs.Carrying.{Cleans, cleans_first, cleans_on, cleans_last, movable_few}

@@ -16,5 +16,5 @@ returns c now leads =
     let body = c.body_of-body.ensures in
     let movable = sym (ap (λ (b : Body). is_movable b (look b.fid.0 now)) body) ∙ sym (c.is_movable.ensures now leads) ∙ c.if-not-is_movable.false in
     let places = subst (λ (b : Body). (q : ℕ × ℕ) → place_in c.put_place.new.places.entries q ≡ (if is_place (b.fid.0, b.block) q then Some b.now else place_in old.places.entries q)) body
-        c.in_ok-put_place.ensures in
+    c.in_ok-put_place.ensures in
     on_ok_weaker c.push.result (λ moves. takes_one old new c.args.pointers.now.files now c.args.delta.now leads movable places moves) c.push.ensures.ok

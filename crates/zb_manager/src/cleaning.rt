@@ -1,6 +1,5 @@
-ghost use Rattle.std.specs.Prelude.{◌≡◌, ◌≤◌, ℕ, [], Some, IfOk, OnOk, if◌then◌else◌, length};
+ghost use Rattle.std.specs.Prelude.{◌≡◌, ◌≤◌, ℕ, Some, IfOk, OnOk, if◌then◌else◌, length};
 ghost use Rattle.zb_types.specs.Keyed.{look};
-ghost use Rattle.zb_delta.specs.Spelling.{body_of};
 ghost use Rattle.zb_delta.specs.declared.delta.Delta.TheVariants.{Clean};
 ghost use Rattle.zb_tables.specs.Fold.{Files, is_movable};
 ghost use Rattle.zb_pointers.specs.declared.head.FileHead.{FileHead};

@@ -1,2 +1,2 @@
-pub mod Finding
-pub mod Using
+mod Finding
+mod Using

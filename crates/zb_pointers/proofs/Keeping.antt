@@ -38,7 +38,7 @@ rising_and : (j : ℕ) (o : Option FileState) (files : Files) → KeysAbove j fi
 rising_and j None files above rising = rising
 rising_and j (Some file) files above rising = (above, rising)
 
-pub rising_files : (es : KeptFiles) → IsRising es → IsRising (files_in es)
+rising_files : (es : KeptFiles) → IsRising es → IsRising (files_in es)
 rising_files [] rising = tt
 rising_files (e ∷ es) rising = rising_and e.0 (file_in e.1) (files_in es) (above_files e.0 es rising.0) (rising_files es rising.1)
 
@@ -68,7 +68,7 @@ if_file j q kept o = elim (cases_eq j q) [
   | inr other ↦ grind (arith, nat_tests)
 ]
 
-pub look-files : (q : ℕ) (es : KeptFiles) → IsRising es → look q (files_in es) ≡ file_at (look q es)
+look-files : (q : ℕ) (es : KeptFiles) → IsRising es → look q (files_in es) ≡ file_at (look q es)
 look-files q [] rising = refl
 look-files q (e ∷ es) rising =
     look_and q e.0 (file_in e.1) (files_in es) (above_files e.0 es rising.0)
@@ -150,7 +150,7 @@ files_less es rising k = same_keyed (files_in (without k es)) (without k (files_
 abbrev pub room : Kept → ℕ
 room kept = kept.blocks.room
 
-pub look-rooms : (q : ℕ) (es : KeptFiles) → look q (rooms_in es) ≡ over room (look q es)
+look-rooms : (q : ℕ) (es : KeptFiles) → look q (rooms_in es) ≡ over room (look q es)
 look-rooms q es = look-changed room q es
 
 -- a file has at least this room
@@ -177,16 +177,6 @@ not_some_and (Some m) n e has = none-some m (sym e)
 
 pub no_room : (es : KeptFiles) (k n : ℕ) → look k es ≡ None → RoomIn es k n → ⊥
 no_room es k n none has = not_some_and (look k (rooms_in es)) n (look-rooms k es ∙ ap (over room) none) has
-
--- what is kept under a number that has room
-pub record Found (es : KeptFiles) (k n : ℕ) : Type 0 where
-  pub kept : Kept
-  pub is : look k es ≡ Some kept
-  pub has : n ≤ room kept
-
-pub found_room : (es : KeptFiles) (k n : ℕ) (o : Option Kept) → look k es ≡ o → RoomIn es k n → Found es k n
-found_room es k n None e has = absurd (no_room es k n e has)
-found_room es k n (Some kept) e has = record { kept = kept; is = e; has = room_had es k kept n e has }
 
 pub rooms_other : (es : KeptFiles) (k q : ℕ) (new : Kept) → (q ≡ k → ⊥) → look q (rooms_in (replaced k new es)) ≡ look q (rooms_in es)
 rooms_other es k q new other = look-rooms q (replaced k new es) ∙ ap (over room) (look-replaced_other q k new es (λ same. other (sym same))) ∙ sym (look-rooms q es)

@@ -23,14 +23,14 @@ above_at k [] i above lt = absurd (omega arith)
 above_at k (e ∷ es) zero above lt = above.0
 above_at k (e ∷ es) (suc i) above lt = above_at k es i above.1 (omega arith)
 
-pub rise_at : (es : Pairs) (i j : ℕ) → IsRising es → i < j → j < length es → number_at es i < number_at es j
+rise_at : (es : Pairs) (i j : ℕ) → IsRising es → i < j → j < length es → number_at es i < number_at es j
 rise_at [] i j rising lt within = absurd (omega arith)
 rise_at (e ∷ es) i zero rising lt within = absurd (omega arith)
 rise_at (e ∷ es) zero (suc j) rising lt within = above_at e.0 es j rising.0 (omega arith)
 rise_at (e ∷ es) (suc i) (suc j) rising lt within = rise_at es i j rising.1 (omega arith) (omega arith)
 
 -- the number of a pair that is read
-pub number_is : (es : Pairs) (i : ℕ) (d : ℕ × Ptr) → i < length es → (get_or es i d).0 ≡ number_at es i
+number_is : (es : Pairs) (i : ℕ) (d : ℕ × Ptr) → i < length es → (get_or es i d).0 ≡ number_at es i
 number_is [] i d lt = absurd (omega arith)
 number_is (e ∷ es) zero d lt = refl
 number_is (e ∷ es) (suc i) d lt = number_is es i d (omega arith)

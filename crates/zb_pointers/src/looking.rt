@@ -46,7 +46,7 @@ impl Pointers {
         Files::of(self.kept.iter())
     }
 
-    /// How many files there are. It takes as many steps.
+    /// How many files there are. It goes through all of them.
     pub fn count(&self) -> usize
         ensures { result ≡ length self.now.files }
     {
@@ -58,7 +58,7 @@ impl Pointers {
         count
     }
 
-    /// The file with this place in the order of their numbers, from 0. It takes as many steps.
+    /// The file with this place in the order of their numbers, from 0. It goes through those before.
     pub fn at(&self, i: usize) -> Option<Fid>
         ensures { option_map (λ fid. fid.0) result ≡ slice_get (keys_of self.now.files) i }
     {

@@ -1,4 +1,4 @@
-use Rattle.std.proofs.Common.{rules, [], Some, None, refl, sym, ap, ◌∙◌, subst, arith}
+use Rattle.std.proofs.Common.{rules, [], Some, None, sym, ap, ◌∙◌, subst, arith}
 use Rattle.zb_tables.specs.Tables.{FileState}
 use Rattle.zb_types.specs.Keyed.{put}
 use Rattle.zb_pointers.specs.Seen.{HasRoom, file_of, files_in, rooms_in}

@@ -10,8 +10,9 @@ ghost use Rattle.zb_slots.specs.Holding.{map_of};
 ghost use Rattle.zb_slot_map.specs.Tidy.{put};
 ghost use Rattle.zb_slot_map.specs.Changing.{IsKept, ReplaceTold};
 
+use zb_cell::following;
 use zb_outside::Bay;
-use zb_slots::{following, free, place_of, store_parity};
+use zb_slots::{free, place_of, store_parity};
 use zb_types::{Failed, FragId, Geometry};
 
 /// The slot of a parity, and its turn, 0 to 2.

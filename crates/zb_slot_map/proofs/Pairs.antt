@@ -1,6 +1,6 @@
 -- Slots none of which is bad, where some are freed whose name another slot stands for.
 use Rattle.std.proofs.Common.{IsTrue, ◌≡◌, ◌≢◌, ◌⊎◌, inl, inr, ⊎_elim, ℕ, zero, suc, ◌<◌, ◌==◌, Bool, true, false, if◌then◌else◌, Option, None, Some, refl, sym, ◌∙◌, ap, subst, arith}
-use Rattle.std.proofs.lemmas.Bool.{cases_eq, cases_lt}
+use Rattle.std.proofs.lemmas.Bool.{cases_eq, cases_lt, false≢true}
 use Rattle.zb_cell.specs.Cell.{following}
 use Rattle.zb_types.specs.declared.ids.FragId.{FragId}
 use Rattle.zb_holding.specs.Carrying.{same_frag}
@@ -15,8 +15,8 @@ use Rattle.zb_slot_map.proofs.Knowing.{not_free, same_stored}
 use Rattle.zb_index.specs.Twins.{NoneIsBad, IsOlder}
 
 stable_parity : (fragment : Fragment) → ((IsTrue (is_parity fragment) → ⊥) → ⊥) → IsTrue (is_parity fragment)
-stable_parity (share_fragment bytes) h = h (λ x. x)
-stable_parity (parity_fragment lengths bytes) h = tt
+stable_parity (share_fragment bytes) h = absurd (h (λ x. false≢true x))
+stable_parity (parity_fragment lengths bytes) h = refl
 
 stable_none : (found : Option Stored) → ((found ≡ None → ⊥) → ⊥) → found ≡ None
 stable_none None h = refl

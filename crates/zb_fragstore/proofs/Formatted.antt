@@ -1,7 +1,6 @@
 -- A platter that is made anew, and the store on it.
 use Rattle.std.proofs.Common.{◌≡◌, ℕ, ◌<◌, List, Result, Ok, Err, IsErr, IfOk, MatchResult, sym, ◌∙◌, ap, subst}
 use Rattle.zb_outside.specs.Meaning.{Meaning}
-use Rattle.zb_outside.proofs.Runs.{started}
 use Rattle.zb_types.specs.declared.memory.Failed.{Failed}
 use Rattle.zb_types.specs.declared.geometry.Geometry.{Geometry}
 use Rattle.zb_types.specs.declared.ids.ServerId.{ServerId}
@@ -11,6 +10,7 @@ use Rattle.zb_index.specs.Seen.{SeenIndex}
 use Rattle.zb_slots.specs.Slots.{slots_in}
 use Rattle.zb_slot_map.specs.Super.{super_text, FormatTold}
 use Rattle.zb_fragstore.specs.Answers.{or_stopped}
+use Rattle.zb_slot_map.proofs.Changes.{tidy_sound}
 use Rattle.zb_fragstore.specs.Changing.{IsOpen}
 use Rattle.zb_fragstore.specs.Opening.{Formats}
 
@@ -46,7 +46,7 @@ module _ (geo : Geometry) (server : ServerId) (fence p : ℕ) (a b : Meaning) (r
       others = done.run;
       settled = done.settled;
       made = record {
-        image = record { own = done.formatted.super; sound = sound_when_tidy geo (b.now.seen server.0) done.formatted.tidy; holds = done.formatted.map };
+        own = record { own = done.formatted.super; sound = tidy_sound geo (b.now.seen server.0) done.formatted.tidy; holds = done.formatted.map };
         size = done.formatted.size;
         free = done.formatted.free;
       };

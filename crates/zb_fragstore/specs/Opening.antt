@@ -53,7 +53,7 @@ StaysWhole geo old new = StaysSame geo old new
 -- an image of a server's platter with this fence that is just as long as a server needs, on which nothing is held and all slots
 -- are free
 pub record IsEmpty (geo : Geometry) (server : ServerId) (fence : ℕ) (image : List ℕ) : Type 0 where
-  pub image : IsImageOf geo server (λ id. None) fence image
+  pub own : IsImageOf geo server (λ id. None) fence image
   pub size : length image ≡ room_of geo
   pub free : free_on geo image ≡ geo.slots
 

@@ -28,7 +28,7 @@ module _ where
 
   not_since : InSpan (place early_faults mending_script before) (rebuilds 2) (λ front rest. (list_any (breaks 2) rest ≡ true) ⊎ (length front ≡ 0)) → ⊥
   not_since span =
-      let none : span.rest ≡ [] = span.at_once (sym (ap plus_of span.is)) in
+      let none : span.rest ≡ [] = span.begins.at_once (sym (ap plus_of span.begins.is)) in
       let one : 1 ≡ length span.front + length span.rest = ap length span.split ∙ length-append span.front span.rest in
       elim span.holds [
         | inl broke ↦ let e : false ≡ true = sym (ap (list_any (breaks 2)) none) ∙ broke in absurd cc

@@ -4,7 +4,7 @@ use Rattle.zb_slots.specs.declared.header.Header.{Header}
 use Rattle.zb_slots.specs.Showing.{header_of, AllMayStand}
 use Rattle.zb_slots.proofs.Leaving.{left_then, left_by_held}
 use Rattle.zb_slots.proofs.Shows.{says, one_more_shown, one_more_stands, are_shown}
-use Rattle.zb_slots.proofs.heads.headers.Goals as goal
+use Rattle.zb_slots.proofs.header_list.headers.Goals as goal
 
 pub returns-in_err-says-clause-told : goal.returns-in_err-says-clause-told
 returns-in_err-says-clause-told g c told = left_then (c.loop-slot.invariant.told told) (left_by_held (c.header_at.ensures.told told))

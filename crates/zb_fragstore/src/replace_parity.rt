@@ -1,5 +1,6 @@
 ghost use Rattle.std.specs.Prelude.{◌≡◌, ◌≢◌, ◌≤◌, ◌<◌, ◌+◌, ◌-◌, ℕ, Some, None, drop, length, true, false, if◌then◌else◌, IsTrue, IfOk, IfErr, OnOk, Err};
 ghost use Rattle.zb_outside.specs.Counts.{Touches};
+ghost use Rattle.zb_outside.specs.Runs.{SparesOthers};
 ghost use Rattle.zb_types.specs.declared.requests.Request.TheVariants as ask;
 ghost use Rattle.zb_slots.specs.Area.{IsArea, lengths_in};
 ghost use Rattle.zb_fragstore.specs.Seen.{free_of, IsStoreOf, is_there, ChangesLength, TakesLeastSlot};
@@ -49,6 +50,7 @@ impl FragStore {
         ensures free { OnOk result (free_of self.new + 1 ≡ free_of self.old) }
         ensures told { IsTrue B.tells → IsOpen self.old (B.meaning bay.old).now → (class : Class)
             → CarriesOut (ask.Parity id (lengths_in (self.old.geo.servers - 1) area.now) (drop 64 area.now) class) self.old self.new result (B.meaning bay.old) (B.meaning bay.new) }
+        ensures others { IsTrue B.tells → SparesOthers self.old.server.0 (B.meaning bay.old) (B.meaning bay.new) }
         ensures system { IsStoreOf self.old.geo self.old.server self.new }
         ensures touches { Touches B.counts B.follows self.old.server.0 4 (is_stopped result) bay.old bay.new }
     {
@@ -77,6 +79,7 @@ impl FragStore {
         ensures free { OnOk result (free_of self.new ≡ free_of self.old) }
         ensures told { IsTrue B.tells → IsOpen self.old (B.meaning bay.old).now → (class : Class)
             → CarriesOut (ask.Parity id (lengths_in (self.old.geo.servers - 1) area.now) (drop 64 area.now) class) self.old self.new result (B.meaning bay.old) (B.meaning bay.new) }
+        ensures others { IsTrue B.tells → SparesOthers self.old.server.0 (B.meaning bay.old) (B.meaning bay.new) }
         ensures system { IsStoreOf self.old.geo self.old.server self.new }
         ensures touches { Touches B.counts B.follows self.old.server.0 7 (is_stopped result) bay.old bay.new }
     {
@@ -117,6 +120,7 @@ impl FragStore {
         ensures free { OnOk result (free_of self.new + (if is_there self.old id then 0 else 1) ≡ free_of self.old) }
         ensures told { IsTrue B.tells → IsOpen self.old (B.meaning bay.old).now
             → CarriesOut (ask.Parity id lengths.now bytes.now class) self.old self.new result (B.meaning bay.old) (B.meaning bay.new) }
+        ensures others { IsTrue B.tells → SparesOthers self.old.server.0 (B.meaning bay.old) (B.meaning bay.new) }
         ensures system { IsStoreOf self.old.geo self.old.server self.new }
         ensures touches { Touches B.counts B.follows self.old.server.0 7 (is_stopped result) bay.old bay.new }
     {

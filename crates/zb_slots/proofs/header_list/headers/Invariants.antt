@@ -1,11 +1,11 @@
-use Rattle.std.proofs.Common.{false, ◌≡◌, ◌≤◌, ℕ, length, Option, Some}
+use Rattle.std.proofs.Common.{false, ◌≡◌, ℕ, length, Option, Some}
 use Rattle.std.specs.Bool.{IsTrue}
 use Rattle.std.specs.Prelude.{slice_get}
 use Rattle.zb_slots.specs.declared.header.Header.{Header}
 use Rattle.zb_slots.specs.Reading.{LeftAlone}
 use Rattle.zb_slots.specs.Showing.{header_of, AllMayStand}
 use Rattle.zb_outside.specs.Counts.{Touches}
-use Rattle.zb_slots.proofs.heads.headers.Given as goal
+use Rattle.zb_slots.proofs.header_list.headers.Given as goal
 
 abbrev pub invariant-loop-slot : goal.invariant-loop-slot
 invariant-loop-slot g l = record {

@@ -1,18 +1,18 @@
 -- What no run may do.
-use Rattle.std.proofs.Common.{◌≡◌, ℕ, suc, true, false, Bool, List, [], ◌∷◌, ◌++◌, length, length-append, Option, Some, None, refl, sym, ap, ◌∙◌, ◌+◌, arith, inl, inr}
+use Rattle.std.proofs.Common.{◌≡◌, ℕ, true, false, Bool, List, [], ◌∷◌, length, length-append, Option, Some, None, refl, sym, ap, ◌∙◌, ◌+◌, arith, inl, inr}
 use Rattle.std.specs.Prelude.{◌⊎◌}
 use Rattle.std.specs.List.{list_any}
 use Rattle.zb_types.specs.declared.nodes.EventAnswer.TheVariants.{Done as EventDone, Stopped}
 use Rattle.zb_types.specs.declared.nodes.Node.TheVariants.{Manager}
 use Rattle.zb_types.specs.declared.lines.Told.TheVariants.{Arm, Up}
-use Rattle.zb_types.specs.declared.lines.Mended.TheVariants.{Copied, Server as FailedServer}
+use Rattle.zb_types.specs.declared.lines.Mended.TheVariants.{Copied}
 use Rattle.zb_types.specs.declared.lines.Outcome.{Outcome}
 use Rattle.zb_types.specs.declared.lines.Outcome.TheVariants.{Rebuild as OfRebuild, Event as OfEvent}
 use Rattle.zb_types.specs.declared.lines.Line.{Line}
 use Rattle.zb_claims.specs.Points.{rebuilds, has_plus}
 use Rattle.zb_headline.specs.Reasons.{HasReason, InSpan, MendedFails, breaks}
 use Rattle.zb_headline.specs.Calm.{calm, place}
-use Rattle.zb_headline.specs.Wrong.{rearmed_script, mending_script, early_faults, made, WrongClaims}
+use Rattle.zb_headline.specs.Wrong.{rearmed_script, mending_script, early_faults, WrongClaims}
 
 rearmed : HasReason (place (calm (λ platter n. 100)) rearmed_script (OfEvent (Arm Manager) EventDone ∷ [])) (OfEvent (Up Manager) (Stopped Manager)) → ⊥
 rearmed (inl h) = h

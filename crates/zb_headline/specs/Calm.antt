@@ -1,5 +1,5 @@
 -- Reasons: where nothing befell no line tells a fault, and the faults of the worked rows have their reasons.
-use Rattle.std.specs.Prelude.{◌≡◌, ℕ, ◌≤◌, Bool, true, false, List, [], ◌∷◌, ◌++◌}
+use Rattle.std.specs.Prelude.{◌≡◌, ℕ, ◌≤◌, Bool, true, false, List, [], ◌++◌}
 use Rattle.std.specs.List.{list_any}
 use Rattle.zb_types.specs.declared.nodes.EventAnswer.TheVariants.{Done as EventDone, Up as IsUp}
 use Rattle.zb_types.specs.declared.lines.Line.{Line}

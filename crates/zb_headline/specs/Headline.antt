@@ -1,6 +1,6 @@
 -- The headline: what a run prints for the script that it takes is one history of the plain file tree, and at each moment
 -- the disks recover to the tree of that history so far, with or without the one batch whose commit is under way.
-use Rattle.std.specs.Prelude.{◌≡◌, ◌⊎◌, ℕ, Bool, true, List, [], ◌∷◌, ◌++◌, codes, Option, ◌==◌}
+use Rattle.std.specs.Prelude.{◌≡◌, ◌⊎◌, ℕ, Bool, true, List, [], ◌++◌, codes, Option, ◌==◌}
 use Rattle.std.specs.List.{list_any}
 use Rattle.zb_types.specs.declared.history.Did.{Did}
 use Rattle.zb_types.specs.declared.lines.Line.{Line}

@@ -1,5 +1,5 @@
 -- The moments of a run, the span of a line, and what is seen there.
-use Rattle.std.specs.Prelude.{◌≡◌, ℕ, suc, ◌+◌, ◌-◌, ◌^◌, ◌≤◌, ◌<◌, min, true, false, List, [], ◌∷◌, ◌++◌, take, Some}
+use Rattle.std.specs.Prelude.{◌≡◌, ℕ, suc, ◌+◌, ◌-◌, ◌^◌, ◌≤◌, ◌<◌, min, true, List, [], ◌∷◌, ◌++◌, take}
 use Rattle.zb_types.specs.declared.lines.Line.{Line}
 use Rattle.zb_types.specs.declared.lines.Said.TheVariants.{Unfinished}
 use Rattle.zb_types.specs.declared.lines.Outcome.{Outcome}

@@ -1,5 +1,5 @@
 -- The sizes that a store knows once it has answered.
-use Rattle.std.proofs.Common.{◌≡◌, ◌≢◌, ◌⊎◌, inl, inr, ⊎_elim, ℕ, ◌+◌, ◌-◌, ◌<◌, nat_lt, Bool, true, false, if◌then◌else◌, List, length, Result, Ok, Err, OnOk, IfErr, Option, None, Some, refl, sym, ◌∙◌, ap, subst, arith}
+use Rattle.std.proofs.Common.{◌≡◌, ◌≢◌, ◌⊎◌, inl, inr, ⊎_elim, ℕ, ◌+◌, ◌-◌, ◌<◌, nat_lt, Bool, true, false, if◌then◌else◌, Result, Ok, Err, OnOk, IfErr, Option, None, Some, refl, sym, ◌∙◌, ap, arith}
 use Rattle.std.specs.Prelude.{option_map}
 use Rattle.std.proofs.lemmas.Bool.{false≢true}
 use Rattle.std.proofs.lemmas.Bool.Decides.{nat_tests}
@@ -16,7 +16,7 @@ use Rattle.zb_fragstore.proofs.Outlined.{sized, by_length}
 use Rattle.zb_fragstore.specs.Answers.{HasStopped}
 use Rattle.zb_fragstore.specs.Appending.{HasGrown}
 use Rattle.zb_server.specs.Answering.{IsSizePut, AreSizesAfter, AreSizesLeft}
-use Rattle.zb_server.proofs.Answered.{Said, runs_too, stopped_is}
+use Rattle.zb_server.proofs.Answered.{Said, stopped_is}
 
 abbrev with_servers : ℕ → FragId → Option ℕ → Option Size
 with_servers n id len = option_map (size_by (nat_lt (id.index + 1) n) (n - 1)) len

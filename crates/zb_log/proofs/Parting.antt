@@ -312,7 +312,7 @@ fresh_ahead n f room at_work given part fresh g is =
     let same = is.stripe in
     record { above = omega arith; lasting = omega arith }
 
-each_fresh : (n f : ℕ) (P : Part → Type 0) (Q : Fresh → Type 0) (parts : List Part) (fresh : List Fresh) → ((part : Part) (one : Fresh) → P part → IsFresh n f part one → Q one)
+pub each_fresh : (n f : ℕ) (P : Part → Type 0) (Q : Fresh → Type 0) (parts : List Part) (fresh : List Fresh) → ((part : Part) (one : Fresh) → P part → IsFresh n f part one → Q one)
     → AllByRecursion P parts → AreFresh n f parts fresh → AllByRecursion Q fresh
 each_fresh n f P Q [] [] to each are = tt
 each_fresh n f P Q [] (one ∷ fresh) to each are = absurd are
@@ -341,7 +341,7 @@ record LastFresh (n f : ℕ) (given parity : List ℕ) (next : Place) (o : Optio
   sums : parity ≡ parity_upto n f given → parity_with parity (last_of fresh) ≡ parity_upto n f (bytes_with given o)
   long : length given ≡ next.offset → length (bytes_with given o) ≡ (end_with next o).offset
 
-last_cons : {A : Type 0} (x y : A) (ys : List A) → last_of (x ∷ (y ∷ ys)) ≡ last_of (y ∷ ys)
+pub last_cons : {A : Type 0} (x y : A) (ys : List A) → last_of (x ∷ (y ∷ ys)) ≡ last_of (y ∷ ys)
 last_cons x y ys =
     let one : suc (suc (length ys)) - 1 ≡ suc (length ys) = omega arith in
     let other : length ys ≡ suc (length ys) - 1 = omega arith in

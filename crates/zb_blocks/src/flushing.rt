@@ -29,11 +29,7 @@ fn lengths(alloc: Global, blocks: &[ByteList]) -> Mem<Vec<u32>>
 }
 
 /// Places blocks next in a log, one behind the other, and gives their addresses and what is new of their stripes.
-pub(crate) fn flush(
-    log: &LogBuf,
-    alloc: Global,
-    blocks: &[ByteList],
-) -> Mem<(Placed, FreshFlush)>
+pub(crate) fn flush(log: &LogBuf, alloc: Global, blocks: &[ByteList]) -> Mem<(Placed, FreshFlush)>
     requires small { log.now.block < 2 ^ 32 }
     requires sizes { AreBlocks log.now.block (map length blocks.now) }
     ensures { IfOk result (λ made. HasFlushed log.now blocks.now made.0 made.1) }

@@ -246,8 +246,8 @@ module _ (n f w : ℕ) (two : 2 ≤ n) (parity : List ℕ) (all : List Piece) (n
     behind = (behind_one n f w parity piece pieces rest two g.behind).more;
     have = λ given h. (g.have given h).2;
     fresh = λ given tail sums h are.
-    let this = is (given_of w given piece.stripe) (g.have given h).1 (at ∙ parity_given n f w parity given piece.stripe two sums) in
-    subst (AreFresh n f (parts_of w given all new)) (sym (append_assoc done (one ∷ []) tail)) (g.fresh given (one ∷ tail) sums h (this, are));
+        let this = is (given_of w given piece.stripe) (g.have given h).1 (at ∙ parity_given n f w parity given piece.stripe two sums) in
+        subst (AreFresh n f (parts_of w given all new)) (sym (append_assoc done (one ∷ []) tail)) (g.fresh given (one ∷ tail) sums h (this, are));
   }
 
   -- one more

@@ -22,13 +22,7 @@ pub(crate) fn joined(alloc: Global, meta: &ByteList, blocks: &[ByteList]) -> Mem
 }
 
 /// What is new of a piece's stripe, with these bytes behind those before, which have this parity.
-fn fresh_part(
-    alloc: Global,
-    geo: &Geometry,
-    parity: &[u8],
-    piece: &Piece,
-    new: &[u8],
-) -> Mem<Fresh>
+fn fresh_part(alloc: Global, geo: &Geometry, parity: &[u8], piece: &Piece, new: &[u8]) -> Mem<Fresh>
     requires room { piece.now.offset + length new.now ≤ (geo.now.servers - 1) * geo.now.fragment }
     requires long { length parity.now ≡ share_length geo.now.fragment piece.now.offset 0 }
     ensures { IfOk result (λ fresh. (before : List ℕ) → length before ≡ piece.now.offset

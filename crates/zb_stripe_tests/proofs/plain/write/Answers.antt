@@ -2,9 +2,8 @@ use Rattle.std.proofs.Common.{◌≡◌, ◌-◌, ◌*◌, ◌++◌, ℕ, None, 
 use Rattle.std.specs.Prelude.{All}
 use Rattle.std.proofs.lemmas.List.Elements.{All-from_recursion}
 use Rattle.std.proofs.lemmas.Result.{on_ok_weaker}
-use Rattle.zb_types.specs.declared.ids.LogId.{LogId}
 use Rattle.zb_types.specs.declared.nodes.Class.TheVariants.{Client}
-use Rattle.zb_stripe.specs.declared.flush.Part.{Part}
+use Rattle.zb_holding.specs.Placing.{frag_id, server_of}
 use Rattle.zb_stripe.specs.declared.flush.Flush.{Flush}
 use Rattle.zb_stripe.specs.declared.flush.Fresh.{Fresh}
 use Rattle.zb_stripe.specs.declared.flush.FreshFlush.{FreshFlush}
@@ -43,7 +42,7 @@ write-requires-clause-may c =
       is = one_fresh c.args.geo.now.servers c.args.geo.now.fragment c.in_ok-from_slice.field-0 c.in_ok-of.field-0 c.in_ok-parts.parts c.push.new.self c.in_ok-parts.ensures c.in_ok-push.ensures.ok c.in_ok-of.ensures.fresh;
       differ = (tt, tt);
       begin = All-from_recursion (MayBegin (seen_at c.args.geo.now old) flush.log) flush.parts
-          (inr record { begin = refl; unwritten = λ k below away. ap (λ (servers : List Entries). maps_of servers _ _) c.requires.empty ∙ c.fragments_fit_index.ensures.nothing 3 _ _ }, tt);
+          (inr record { begin = refl; unwritten = λ k below away. ap (λ (servers : List Entries). maps_of servers (server_of c.args.geo.now.servers (frag_id flush.log 4 k)) (frag_id flush.log 4 k)) c.requires.empty ∙ c.fragments_fit_index.ensures.nothing 3 (server_of c.args.geo.now.servers (frag_id flush.log 4 k)) (frag_id flush.log 4 k) }, tt);
     }
 
 pub returns-clause-fit : goal.returns-clause-fit

@@ -43,8 +43,8 @@ returns c =
     let new = meta ++ concat blocks in
     let log_is = ap (λ (z : SeenLog). z.log) c.self.view_is in
     let fresh : ForGiven seen (λ given. AreFresh seen.servers seen.fragment (parts_of seen.next.stripe given placed.pieces new) c.of.result) =
-        λ given are. told _ seen given c.deref.result.now new c.deref-2.result.now c.slice.result.now placed.pieces c.in_ok-parts.parts.items c.of.result c.self.view_is c.deref.ensures.value c.slice.ensures
-        (c.deref-2.ensures.value ∙ c.in_ok-new.ensures) c.of.ensures (c.in_ok-parts.ensures given) are (can given are).have in
+    λ given are. told _ seen given c.deref.result.now new c.deref-2.result.now c.slice.result.now placed.pieces c.in_ok-parts.parts.items c.of.result c.self.view_is c.deref.ensures.value c.slice.ensures
+    (c.deref-2.ensures.value ∙ c.in_ok-new.ensures) c.of.ensures (c.in_ok-parts.ensures given) are (can given are).have in
     record {
       sealed = record { meta = meta; blocks = blocks; is_placed = c.requires; parts = λ given are. record { log = log_is; parts = fresh given are } };
       log = log_is;

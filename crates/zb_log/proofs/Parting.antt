@@ -1,6 +1,6 @@
 -- The parts of a batch that was placed last.
 use Rattle.std.proofs.Common.{◌∙◌, ◌≡◌, inl, inr, ℕ, suc, Bool, cond, get_or, ◌+◌, ◌-◌, ◌*◌, ◌<◌, ◌≤◌, List, [], ◌∷◌, ◌++◌, length, take, drop, map, refl, sym, ap, subst, arith}
-use Rattle.std.specs.Prelude.{slice_get, Option, None, Some, All}
+use Rattle.std.specs.Prelude.{slice_get, Option, Some, All}
 use Rattle.std.proofs.lemmas.Bool.{cases_eq, eq-eqb, ne_eqb}
 use Rattle.std.specs.List.{AllByRecursion, AllZip, concat}
 use Rattle.std.proofs.lemmas.List.{append-nil, append_assoc, at_drop_more, take-append-drop, nil_from_length, take_all, take_at, drop_at, length-append, length-drop, length-take-le}

@@ -1,4 +1,4 @@
-use Rattle.std.proofs.Common.{◌≡◌, ◌+◌, ◌-◌, ◌≤◌, List, ℕ, ◌++◌, length, drop, get_or, bit_xor, sym, ap, ◌∙◌, arith, length-drop}
+use Rattle.std.proofs.Common.{◌≡◌, ◌+◌, ◌-◌, ◌≤◌, List, ℕ, ◌++◌, length, drop, get_or, bit_xor, ap, ◌∙◌, arith, length-drop}
 use Rattle.std.proofs.lemmas.List.{get_or-append_right, get_or-drop}
 use Rattle.zb_holding.specs.Exclusive.{xored}
 use Rattle.zb_holding.proofs.Exclusives.{get_or-xored_shorter}

@@ -1,7 +1,6 @@
-use Rattle.std.proofs.Common.{◌≡◌, ◌++◌, ◌-◌, ◌+◌, ◌<◌, ◌≤◌, List, ℕ, length, [], ◌∷◌, take, drop, get_or, refl, sym, ap, subst, ◌∙◌, arith}
+use Rattle.std.proofs.Common.{◌+◌, length, drop, get_or, sym, ap, subst, ◌∙◌, arith}
 use Rattle.zb_types.specs.declared.ids.Piece.{Piece}
-use Rattle.zb_stripe.specs.declared.flush.Fresh.{Fresh}
-use Rattle.zb_log.proofs.Parting.{Growing, BehindFirst, behind_first, none_grown, one_grown, all_grown, drop_head, drop_none}
+use Rattle.zb_log.proofs.Parting.{Growing, behind_first, none_grown, one_grown, all_grown, drop_head, drop_none}
 use Rattle.zb_log.proofs.sealing.fresh_parts.Goals as goal
 
 abbrev nothing : Piece

@@ -1,10 +1,7 @@
-use Rattle.std.proofs.Common.{◌≡◌, ◌++◌, ◌-◌, ◌+◌, ◌≤◌, List, ℕ, length, get_or, take, bit_xor, refl, sym, ap, subst, ◌∙◌, rules, arith}
+use Rattle.std.proofs.Common.{◌≡◌, List, ℕ, length, ap, ◌∙◌, rules, arith}
 use Rattle.std.specs.Prelude.{replicate}
-use Rattle.std.proofs.lemmas.List.{take_at, length-replicate}
-use Rattle.zb_holding.specs.Exclusive.{xored, xor_at}
-use Rattle.zb_holding.specs.Placing.{share_of, share_length}
-use Rattle.zb_holding.proofs.Exclusives.{length-xored}
-use Rattle.zb_stripe.specs.Writing.{parity_upto}
+use Rattle.std.proofs.lemmas.List.{take_at}
+use Rattle.zb_holding.specs.Exclusive.{xored}
 use Rattle.zb_stripe.proofs.Making.{grown_is}
 use Rattle.zb_stripe.proofs.parity.grow_parity.Goals as goal
 

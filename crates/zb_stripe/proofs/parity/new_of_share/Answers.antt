@@ -1,6 +1,6 @@
-use Rattle.std.proofs.Common.{◌≡◌, ◌<◌, ◌≤◌, ◌++◌, ◌*◌, ◌+◌, ◌-◌, List, take, drop, refl, sym, ap, subst, ◌∙◌, length, ℕ, arith}
+use Rattle.std.proofs.Common.{◌≡◌, ◌<◌, ◌++◌, ◌*◌, ◌+◌, ◌-◌, List, take, drop, ap, subst, ◌∙◌, length, ℕ, arith}
 use Rattle.zb_holding.specs.Placing.{share_length, share_of}
-use Rattle.zb_stripe.proofs.Making.{none_new, some_new, new_range}
+use Rattle.zb_stripe.proofs.Making.{none_new, some_new}
 use Rattle.zb_stripe.proofs.parity.new_of_share.Goals as goal
 
 pub returns-then-all-had-clause-new : goal.returns-then-all-had-clause-new

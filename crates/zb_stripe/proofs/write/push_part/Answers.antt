@@ -1,4 +1,4 @@
-use Rattle.std.proofs.Common.{◌≡◌, ◌++◌, ◌-◌, ◌<◌, List, ℕ, length, [], refl, sym, ap, ◌∙◌, arith, append_assoc}
+use Rattle.std.proofs.Common.{◌≡◌, ◌++◌, ◌-◌, List, ℕ, ap, ◌∙◌, arith, append_assoc}
 use Rattle.zb_types.specs.declared.ids.ServerId.{ServerId}
 use Rattle.zb_types.specs.declared.requests.Request.{Request}
 use Rattle.zb_stripe.specs.Writing.{share_requests, parity_request}

@@ -1,10 +1,10 @@
-use Rattle.std.proofs.Common.{◌≡◌, ◌++◌, ◌<◌, ◌*◌, List, ℕ, length, drop, [], ◌∷◌, refl, sym, ap, subst, ◌∙◌, arith}
+use Rattle.std.proofs.Common.{◌≡◌, ◌++◌, ◌<◌, List, ℕ, length, drop, sym, ap, subst, ◌∙◌, arith}
 use Rattle.std.proofs.lemmas.List.{append-nil}
 use Rattle.std.proofs.lemmas.Bool.{eqb-true, eqb-false}
 use Rattle.zb_holding.specs.Placing.{share_length, share_of}
 use Rattle.zb_types.specs.declared.ids.ServerId.{ServerId}
 use Rattle.zb_types.specs.declared.requests.Request.{Request}
-use Rattle.zb_stripe.proofs.Making.{no_share, gone_share, made_share}
+use Rattle.zb_stripe.proofs.Making.{no_share, made_share}
 use Rattle.zb_stripe.proofs.write.push_share.Goals as goal
 
 -- the new ones, behind any that may stand before

@@ -1,4 +1,4 @@
-use Rattle.std.proofs.Common.{◌≡◌, ◌≤◌, ◌*◌, ◌-◌, refl, [], arith, rules, ◌∙◌}
+use Rattle.std.proofs.Common.{refl, [], arith, rules}
 use Rattle.zb_log.proofs.Parting.{none_given}
 use Rattle.zb_log.proofs.log.LogBuf.new.Goals as goal
 

@@ -1,5 +1,4 @@
-use Rattle.std.proofs.Common.{◌≡◌, ℕ, List, refl, [], arith, subst, ◌∙◌}
-use Rattle.zb_log.specs.Logs.{SeenLog, AreGiven}
+use Rattle.std.proofs.Common.{refl, [], arith}
 use Rattle.zb_log.proofs.Parting.{none_given}
 use Rattle.zb_log.proofs.log.LogBuf.next_stripe.Goals as goal
 

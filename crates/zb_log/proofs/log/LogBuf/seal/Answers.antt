@@ -1,14 +1,12 @@
-use Rattle.std.proofs.Common.{◌≡◌, ◌++◌, List, ℕ, length, map, sym, ap, subst, ◌∙◌, refl, arith}
-use Rattle.std.specs.Prelude.{All}
+use Rattle.std.proofs.Common.{◌≡◌, ◌++◌, List, ℕ, length, map, sym, ap, subst, ◌∙◌, arith}
 use Rattle.std.specs.List.{concat}
 use Rattle.std.proofs.lemmas.Grind.{common_steps}
 use Rattle.std.proofs.lemmas.List.Elements.{All-from_recursion}
-use Rattle.zb_stripe.specs.declared.flush.Part.{Part}
 use Rattle.zb_stripe.specs.declared.flush.Fresh.{Fresh}
-use Rattle.zb_stripe.specs.Fresh.{AreFresh, HasRoom}
+use Rattle.zb_stripe.specs.Fresh.{AreFresh}
 use Rattle.zb_types.specs.declared.ids.Piece.{Piece}
 use Rattle.zb_stripe.specs.Writing.{parity_upto}
-use Rattle.zb_log.specs.Sealing.{parts_of, HaveBytes, GoBehind, GoesNext, LiesAhead}
+use Rattle.zb_log.specs.Sealing.{parts_of, HaveBytes, GoesNext}
 use Rattle.zb_log.specs.Logs.{SeenLog, AreGiven, IsSound, IsPlaced, ForGiven}
 use Rattle.zb_log.proofs.Parting.{can_seal, goes_behind, all_room, all_ahead}
 use Rattle.zb_log.proofs.log.LogBuf.seal.Goals as goal

@@ -2,9 +2,7 @@ use Rattle.std.proofs.Common.{◌≡◌, true, false, List, length, None, is_som
 use Rattle.std.specs.Prelude.{slice_get}
 use Rattle.std.proofs.lemmas.Result.{MatchResult-from_err}
 use Rattle.zb_holding.specs.Carrying.{carried_all}
-use Rattle.zb_stripe.specs.declared.flush.Flush.{Flush}
 use Rattle.zb_stripe.specs.Writing.{plan_requests}
-use Rattle.zb_stripe.specs.Fresh.{IsFreshFlush}
 use Rattle.zb_plain.specs.Standing.{Entries, maps_of}
 use Rattle.zb_plain.specs.Answering.{MayAsk}
 use Rattle.zb_plain.specs.Delivering.{IsBegun, IsTaken}

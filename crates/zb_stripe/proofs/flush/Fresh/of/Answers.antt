@@ -1,4 +1,4 @@
-use Rattle.std.proofs.Common.{◌≡◌, [], ◌++◌, ◌-◌, ◌+◌, ◌≤◌, List, ℕ, length, take, drop, length-drop, refl, sym, ap, subst, ◌∙◌, rules, arith}
+use Rattle.std.proofs.Common.{◌≡◌, [], ◌-◌, List, ℕ, length, take, drop, length-drop, refl, ap, ◌∙◌, arith}
 use Rattle.std.proofs.lemmas.List.{take_all}
 use Rattle.zb_stripe.specs.Writing.{parity_upto}
 use Rattle.zb_stripe.proofs.Making.{parity_none}

@@ -1,7 +1,6 @@
-use Rattle.std.proofs.Common.{◌≡◌, ℕ, ◌<◌, ◌≤◌, ◌-◌, Bool, true, false, List, length, rules, refl, sym, ap, subst, ◌∙◌, arith}
-use Rattle.std.specs.Prelude.{slice_index_or, slice_set}
+use Rattle.std.proofs.Common.{◌<◌, true, false, rules, sym, subst, ◌∙◌, arith}
 use Rattle.std.proofs.lemmas.Grind.{get_or-set_at}
-use Rattle.zb_stripe.specs.Reading.{Reading, read_of, reading, pos_of, end_of, index_of}
+use Rattle.zb_stripe.specs.Reading.{Reading, read_of, pos_of, end_of, index_of}
 use Rattle.zb_stripe.proofs.Ending.{index_below}
 use Rattle.zb_stripe.proofs.read.ReadPlan.lose.Goals as goal
 

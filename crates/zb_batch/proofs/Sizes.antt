@@ -1,5 +1,5 @@
 -- How many bytes the parts of a batch take.
-use Rattle.std.proofs.Common.{◌≡◌, ℕ, ◌+◌, ◌*◌, ◌≤◌, List, [], ◌∷◌, ◌++◌, length, refl, arith, length-append}
+use Rattle.std.proofs.Common.{◌≡◌, ℕ, ◌+◌, ◌*◌, ◌≤◌, List, [], ◌∷◌, ◌++◌, length, map, refl, ap, arith, length-append}
 use Rattle.std.specs.Prelude.{sum_by}
 use Rattle.std.specs.List.{flat_map}
 use Rattle.std.proofs.lemmas.List.Sums.{sum_by-cons}
@@ -13,8 +13,10 @@ use Rattle.zb_delta.proofs.Lengths.{length-spelling_of_delta}
 use Rattle.zb_batch.specs.declared.batch.Op.{Op}
 use Rattle.zb_batch.specs.declared.batch.Op.TheVariants.{Name, Write, Cut, Sync, Clean}
 use Rattle.zb_batch.specs.declared.header.Header.{Header}
-use Rattle.zb_batch.specs.Spelling.{path_text, paths_text, deltas_text, deltas_of, call_of, rest_text, op_text, ops_text, delta_count}
+use Rattle.zb_batch.specs.Spelling.{path_text, paths_text, deltas_text, deltas_of, call_of, rest_text, op_text, ops_text, delta_count, meta_length}
+use Rattle.zb_batch.specs.declared.batch.Batch.{Batch}
 use Rattle.zb_batch.specs.Reading.{paths_length, op_length, header_text}
+use Rattle.zb_batch.specs.Shapes.{Shape, names, writes, cuts, syncs, cleans, shape_of, HaveSameShape}
 
 pub length-path_text : (path : List ℕ) → length (path_text path) ≡ 2 + length path
 length-path_text path = omega (arith, length-append (number_text 2 (length path)) path, length-number_text 2 (length path))
@@ -72,3 +74,31 @@ count_of_ops (op ∷ ops) = omega (arith, count_of_op op, count_of_ops ops, sum_
 
 pub length-header_text : (header : Header) → length (header_text header) ≡ 32
 length-header_text header = simp (length-append, length-number_text)
+
+-- ---- by shapes
+
+abbrev length_of_shape : Shape → ℕ
+length_of_shape (names what) = 9 + paths_length what
+length_of_shape (writes n) = 9 + (24 + 58 * n)
+length_of_shape (cuts n) = 9 + (20 + 58 * n)
+length_of_shape syncs = 9
+length_of_shape (cleans n) = 9 + (4 + 58 * n)
+
+shape_length : (op : Op) → op_length op ≡ length_of_shape (shape_of op)
+shape_length (Name call what) = refl
+shape_length (Write call fid version offset len deltas) = refl
+shape_length (Cut call fid version size deltas) = refl
+shape_length (Sync call) = refl
+shape_length (Clean deltas) = refl
+
+abbrev sum_shapes : List Shape → ℕ
+sum_shapes [] = 0
+sum_shapes (shape ∷ shapes) = length_of_shape shape + sum_shapes shapes
+
+length-shapes : (ops : List Op) → length (ops_text ops) ≡ sum_shapes (map shape_of ops)
+length-shapes [] = refl
+length-shapes (op ∷ ops) = omega (arith, length-append (op_text op) (ops_text ops), length-op_text op, shape_length op, length-shapes ops)
+
+-- operations of the same shapes take as many bytes
+pub same_length : (batch other : Batch) → HaveSameShape batch other → meta_length batch ≡ meta_length other
+same_length batch other same = let one = length-shapes batch.ops in let two = length-shapes other.ops in let e = ap sum_shapes same in omega arith

@@ -1,3 +1,4 @@
-pub mod Spelling
 pub mod Batches
 pub mod Reading
+pub mod Shapes
+pub mod Spelling

@@ -31,15 +31,15 @@ each_of log pieces most (ptr ∷ ptrs) (block ∷ blocks) a some =
     (record { log_is = a.0.log_is; len_is = a.0.len_is; some = omega arith }, each_of log pieces most ptrs blocks a.1 some.1)
 
 -- what went next into a log
-pub record IsGoing (seen : SeenLog) (blocks : List (List ℕ)) (ptrs : List Ptr) (flush : Flush) : Type 0 where
-  pub each : Each (GoesNext seen.room seen.next.stripe seen.bytes) flush.parts
+pub record IsGoing (seen : SeenLog) (given : List ℕ) (blocks : List (List ℕ)) (ptrs : List Ptr) (flush : Flush) : Type 0 where
+  pub each : Each (GoesNext seen.room seen.next.stripe given) flush.parts
   pub rise : StripesRise flush.parts
   pub stand : StandEach flush.parts ptrs blocks
   pub of : AllZip (IsOf seen.log) ptrs blocks
 
-pub going : (seen : SeenLog) (blocks : List (List ℕ)) (placed : Placed) (flush : Flush) → IsFlushed seen blocks placed flush → IsGoing seen blocks placed.ptrs flush
-going seen blocks placed flush f = record {
-  each = recursion_from_All (GoesNext seen.room seen.next.stripe seen.bytes) flush.parts f.each;
+pub going : (seen : SeenLog) (given : List ℕ) (blocks : List (List ℕ)) (placed : Placed) (flush : Flush) → IsFlushed seen given blocks placed flush → IsGoing seen given blocks placed.ptrs flush
+going seen given blocks placed flush f = record {
+  each = recursion_from_All (GoesNext seen.room seen.next.stripe given) flush.parts f.each;
   rise = f.rise;
   stand = f.stand;
   of = each_of seen.log placed.pieces seen.block placed.ptrs blocks f.ptrs (recursion_from_All (λ n. (1 ≤ n) × (n ≤ seen.block)) (map length blocks) f.is_placed.lens);

@@ -3,14 +3,16 @@ use Rattle.std.proofs.Common.{◌≡◌, ◌-◌, ◌*◌, ℕ, ◌+◌, ◌<◌
 use Rattle.std.specs.Prelude.{All, Any, slice_index}
 use Rattle.std.specs.List.{AllZip}
 use Rattle.std.proofs.lemmas.List.{take_all, length-take, length-drop}
-use Rattle.std.proofs.lemmas.List.Elements.{All-from_recursion}
+use Rattle.std.proofs.lemmas.List.Elements.{All-from_recursion, recursion_from_All}
 use Rattle.zb_types.specs.declared.ids.LogId.{LogId}
 use Rattle.zb_types.specs.declared.ids.Ptr.{Ptr}
 use Rattle.zb_holding.specs.Holding.{Maps, StripeHolds, view_of}
 use Rattle.zb_holding.specs.Carrying.{carried_all}
 use Rattle.zb_stripe.specs.declared.flush.Part.{Part}
 use Rattle.zb_stripe.specs.declared.flush.Flush.{Flush}
+use Rattle.zb_stripe.specs.declared.flush.FreshFlush.{FreshFlush}
 use Rattle.zb_stripe.specs.Writing.{IsWritable}
+use Rattle.zb_stripe.specs.Fresh.{IsFreshFlush, HasRoom}
 use Rattle.zb_stripe_laws.specs.PartAtWork.{MayBegin, AreElsewhere, StripesDiffer}
 use Rattle.zb_stripe_laws.proofs.Working.{others_elsewhere}
 use Rattle.zb_log.specs.declared.places.Place.{Place}
@@ -18,19 +20,36 @@ use Rattle.zb_log.specs.declared.placed.Placed.{Placed}
 use Rattle.zb_log.specs.Sealing.{StandEach, StandsIn}
 use Rattle.zb_log.specs.Places.{place}
 use Rattle.zb_log.specs.Logs.{SeenLog, last_of, end_with, bytes_with, gone_on}
+use Rattle.zb_log.proofs.Parting.{given_on}
 use Rattle.zb_plain.specs.Standing.{Entries, maps_of}
 use Rattle.zb_plain.specs.Delivering.{IsBegun}
-use Rattle.zb_blocks.specs.Blocks.{SeenBlocks, IsSound, LogStands, LogFits, blocks_log, end_of, contents_of, stored_at, IsStored, IsAt, Extends}
-use Rattle.zb_blocks.specs.Flushing.{IsFlushed, end_after}
+use Rattle.zb_blocks.specs.Blocks.{SeenBlocks, IsSound, StandsAt, LogStands, LogFits, blocks_log, end_of, contents_of, stored_at, IsStored, IsAt, Extends}
+use Rattle.zb_blocks.specs.Flushing.{IsFlushed, end_after, end_new}
 use Rattle.zb_blocks.proofs.Standings.{Holds, EachHolds, each_holds, stripes_hold, contents_held, same_stored}
 use Rattle.zb_blocks.proofs.Parts.{Each, differ, Among, find, at_part, at_index, highest, last_among, none_last, elsewhere_above, end_elsewhere, end_among}
 use Rattle.zb_blocks.proofs.Addresses.{IsOf, IsGoing, going}
-use Rattle.zb_blocks.proofs.Beginnings.{Next, each_to, begins_or_goes_on, may_begin, is_writable}
+use Rattle.zb_blocks.proofs.Beginnings.{Next, each_to, begins_or_goes_on, may_begin, is_writable, ends_same}
 use Rattle.zb_blocks.proofs.Keeping.{Plan, KeepsStripes, all_begun, stays_held, stays_free, stays_indexed}
 
-module _ (old : SeenBlocks) (s : IsSound old) (blocks : List (List ℕ)) (placed : Placed) (flush : Flush) (went : IsFlushed old.log blocks placed flush) where
-  abbrev Going : IsGoing old.log blocks placed.ptrs flush
-  Going = going old.log blocks placed flush went
+-- ---- what is new, by the sizes of the servers
+
+module _ (old : SeenBlocks) (s : IsSound old) (flush : Flush) (fresh : FreshFlush) (new : IsFreshFlush old.log.servers old.log.fragment flush fresh) where
+  pub new_here : IsFreshFlush old.servers old.fragment flush fresh
+  new_here = subst (λ (f : ℕ). IsFreshFlush old.servers f flush fresh) s.log_fits.fragment (subst (λ (n : ℕ). IsFreshFlush n old.log.fragment flush fresh) s.log_fits.servers new)
+
+  module _ (room : All (HasRoom old.log.room) fresh.parts) where
+    pub fits_here : All (HasRoom ((old.servers - 1) * old.fragment)) fresh.parts
+    fits_here = subst (λ (m : ℕ). All (HasRoom m) fresh.parts) s.log_fits.room room
+
+    pub entered_at : (ends : List ℕ) → ((stripe : ℕ) → slice_index ends stripe ≡ end_new fresh.parts stripe (slice_index old.ends stripe))
+        → (stripe : ℕ) → slice_index ends stripe ≡ end_after flush.parts stripe (slice_index old.ends stripe)
+    entered_at ends entered stripe =
+        entered stripe
+        ∙ ends_same old.servers old.fragment flush.parts fresh.parts stripe (slice_index old.ends stripe) new_here.parts (recursion_from_All (HasRoom ((old.servers - 1) * old.fragment)) fresh.parts fits_here)
+
+module _ (old : SeenBlocks) (s : IsSound old) (blocks : List (List ℕ)) (placed : Placed) (flush : Flush) (went : IsFlushed old.log s.log_stands.given blocks placed flush) where
+  abbrev Going : IsGoing old.log s.log_stands.given blocks placed.ptrs flush
+  Going = going old.log s.log_stands.given blocks placed flush went
 
   -- what a commit asks of the parts
   pub parts_fit : All (IsWritable ((old.servers - 1) * old.fragment)) flush.parts
@@ -46,7 +65,7 @@ module _ (old : SeenBlocks) (s : IsSound old) (blocks : List (List ℕ)) (placed
       (All-from_recursion (MayBegin (view_of old.servers old.fragment (maps_of old.kept) None) blocks_log) flush.parts
       (each_to (Next old s) (MayBegin (view_of old.servers old.fragment (maps_of old.kept) None) blocks_log) flush.parts (may_begin old s) Going.each))
 
-  module _ (laws : KeepsStripes old.servers old.fragment (maps_of old.kept) flush flush.log) (kept : List Entries) (ends : List ℕ)
+  module _ (fresh : FreshFlush) (new : IsFreshFlush old.log.servers old.log.fragment flush fresh) (laws : KeepsStripes old.servers old.fragment (maps_of old.kept) flush flush.log) (kept : List Entries) (ends : List ℕ)
       (carried : maps_of kept ≡ carried_all (maps_of old.kept) (Plan old.servers old.fragment flush))
       (entered : (stripe : ℕ) → slice_index ends stripe ≡ end_after flush.parts stripe (slice_index old.ends stripe)) (count : length kept ≡ length old.kept) where
     keeps : KeepsStripes old.servers old.fragment (maps_of old.kept) flush blocks_log
@@ -56,7 +75,7 @@ module _ (old : SeenBlocks) (s : IsSound old) (blocks : List (List ℕ)) (placed
     begun = all_begun old.servers old.fragment (maps_of old.kept) (maps_of kept) flush carried
 
     abbrev pub put : SeenBlocks
-    put = record old { log = gone_on old.log placed.next flush.parts; kept = kept; ends = ends }
+    put = record old { log = gone_on old.log placed.next fresh.parts; kept = kept; ends = ends }
 
     held_elsewhere : (stripe end : ℕ) (bytes : List ℕ) → AreElsewhere stripe flush.parts
         → StripeHolds (view_of old.servers old.fragment (maps_of old.kept) None) blocks_log stripe end bytes → StripeHolds (view_of old.servers old.fragment (maps_of kept) None) blocks_log stripe end bytes
@@ -178,29 +197,29 @@ module _ (old : SeenBlocks) (s : IsSound old) (blocks : List (List ℕ)) (placed
 
     -- ---- the log
 
-    with_no_part : last_of flush.parts ≡ None → LogStands (record put { log = old.log })
+    with_no_part : last_of flush.parts ≡ None → StandsAt put old.log.next s.log_stands.given
     with_no_part none =
         let empty = none_last flush.parts none in
         let away = λ (stripe : ℕ). subst (AreElsewhere stripe) (sym empty) tt in
         let at_work = old.log.next.stripe in
-        let stands = s.log_stands in
+        let stands = s.log_stands.stands in
         let free = λ (stripe : ℕ). stays_free old.servers old.fragment (maps_of old.kept) (maps_of kept) flush blocks_log keeps begun stripe (away stripe) in
         record {
           end = same_end at_work (away at_work) ∙ stands.end;
-          stand = λ some. held_elsewhere at_work (length old.log.bytes) old.log.bytes (away at_work) (stands.stand some);
+          stand = λ some. held_elsewhere at_work (length s.log_stands.given) s.log_stands.given (away at_work) (stands.stand some);
           fresh = λ zero. free at_work (stands.fresh zero);
           above = λ stripe lt. free stripe (stands.above stripe lt);
           uncommitted = λ stripe lt. same_end stripe (away stripe) ∙ stands.uncommitted stripe lt;
         }
 
-    with_last_part : (last : Part) → last_of flush.parts ≡ Some last → LogStands (record put { log = record old.log { next = place last.stripe (length last.bytes); bytes = last.bytes } })
+    with_last_part : (last : Part) → last_of flush.parts ≡ Some last → StandsAt put (place last.stripe (length last.bytes)) last.bytes
     with_last_part last is =
         let split = last_among flush.parts last is in
         let own = at_part (Next old s) split.0 [] last (subst (Each (Next old s)) split.1 Going.each) in
         let low = highest flush.parts last Going.rise is in
         let from = own.above in
         let new = own.writable.new in
-        let stands = s.log_stands in
+        let stands = s.log_stands.stands in
         let away = λ (stripe : ℕ) (lt : last.stripe < stripe). elsewhere_above stripe last.stripe flush.parts low lt in
         record {
           end = part_end split.0 [] last split.1;
@@ -210,27 +229,23 @@ module _ (old : SeenBlocks) (s : IsSound old) (blocks : List (List ℕ)) (placed
           uncommitted = λ stripe lt. same_end stripe (away stripe lt) ∙ stands.uncommitted stripe (omega (arith, lt));
         }
 
-    abbrev behind : Option Part → SeenLog
-    behind o = record old.log { next = end_with old.log.next o; bytes = bytes_with old.log.bytes o }
-
-    log_with : (o : Option Part) → last_of flush.parts ≡ o → LogStands (record put { log = behind o })
+    log_with : (o : Option Part) → last_of flush.parts ≡ o → StandsAt put (end_with old.log.next o) (bytes_with s.log_stands.given o)
     log_with None is = with_no_part is
     log_with (Some last) is = with_last_part last is
 
-    fits_with : (o : Option Part) → LogFits (record put { log = behind o })
-    fits_with o = record { log = s.log_fits.log; room = s.log_fits.room; block = s.log_fits.block }
-
-    log_is : gone_on old.log placed.next flush.parts ≡ behind (last_of flush.parts)
-    log_is = ap (λ (z : Place). record old.log { next = z; bytes = bytes_with old.log.bytes (last_of flush.parts) }) (sym went.ends)
-
     pub put_sound : IsSound put
     put_sound =
+        let given = bytes_with s.log_stands.given (last_of flush.parts) in
         record {
           many = s.many;
           some = s.some;
           count = count ∙ s.count;
           indexed = stays_indexed old.servers old.fragment (maps_of old.kept) (maps_of kept) flush blocks_log keeps begun s.indexed;
           stripes_hold = stripes_hold put put_each_holds;
-          log_fits = subst (λ (z : SeenLog). LogFits (record put { log = z })) (sym log_is) (fits_with (last_of flush.parts));
-          log_stands = subst (λ (z : SeenLog). LogStands (record put { log = z })) (sym log_is) (log_with (last_of flush.parts) refl);
+          log_fits = record { log = s.log_fits.log; servers = s.log_fits.servers; fragment = s.log_fits.fragment; room = s.log_fits.room; block = s.log_fits.block };
+          log_stands = record {
+            given = given;
+            are = given_on old.log placed.next s.log_stands.given flush fresh s.log_stands.are new went.ends;
+            stands = subst (λ (z : Place). StandsAt put z given) went.ends (log_with (last_of flush.parts) refl);
+          };
         }

@@ -7,7 +7,8 @@ use Rattle.zb_types.specs.declared.ids.Ptr.{Ptr}
 use Rattle.zb_holding.specs.Placing.{share_length}
 use Rattle.zb_holding.specs.Holding.{share_bytes, standing, StripeHolds, AreBytesOfStripe, view_of}
 use Rattle.zb_stripe_laws.specs.PartAtWork.{IsUnwritten}
-use Rattle.zb_log.specs.Logs.{SeenLog, laid_next}
+use Rattle.zb_log.specs.declared.places.Place.{Place}
+use Rattle.zb_log.specs.Logs.{SeenLog, AreGiven, laid_next}
 use Rattle.zb_plain.specs.Standing.{Entries, maps_of}
 use Rattle.zb_plain.specs.Indexed.{AllFitIndex}
 
@@ -87,20 +88,27 @@ StripesHold blocks = (missing : Option ServerId) (stripe : ℕ) → 0 < end_of b
 abbrev pub IsFree : SeenBlocks → ℕ → Type 0
 IsFree blocks stripe = IsUnwritten (view_of blocks.servers blocks.fragment (maps_of blocks.kept) None) blocks_log stripe
 
--- the bytes that the log gave of the stripe at work are committed and stand, with nothing behind them, and of the
--- stripes above nothing stands
+-- these bytes of the stripe at work are committed and stand, with nothing behind them, and of the stripes above nothing
+-- stands
+pub record StandsAt (blocks : SeenBlocks) (next : Place) (given : List ℕ) : Type 0 where
+  pub end : end_of blocks next.stripe ≡ length given
+  pub stand : 0 < length given
+      → StripeHolds (view_of blocks.servers blocks.fragment (maps_of blocks.kept) None) blocks_log next.stripe (length given) given
+  pub fresh : length given ≡ 0 → IsFree blocks next.stripe
+  pub above : (stripe : ℕ) → next.stripe < stripe → IsFree blocks stripe
+  pub uncommitted : (stripe : ℕ) → next.stripe < stripe → end_of blocks stripe ≡ 0
+
+-- bytes that the log gave of the stripe at work stand so
 pub record LogStands (blocks : SeenBlocks) : Type 0 where
-  pub end : end_of blocks blocks.log.next.stripe ≡ length blocks.log.bytes
-  pub stand : 0 < length blocks.log.bytes
-      → StripeHolds (view_of blocks.servers blocks.fragment (maps_of blocks.kept) None) blocks_log blocks.log.next.stripe
-      (length blocks.log.bytes) blocks.log.bytes
-  pub fresh : length blocks.log.bytes ≡ 0 → IsFree blocks blocks.log.next.stripe
-  pub above : (stripe : ℕ) → blocks.log.next.stripe < stripe → IsFree blocks stripe
-  pub uncommitted : (stripe : ℕ) → blocks.log.next.stripe < stripe → end_of blocks stripe ≡ 0
+  pub given : List ℕ
+  pub are : AreGiven blocks.log given
+  pub stands : StandsAt blocks blocks.log.next given
 
 -- the log is log 1, with the sizes of the servers
 pub record LogFits (blocks : SeenBlocks) : Type 0 where
   pub log : blocks.log.log ≡ blocks_log
+  pub servers : blocks.log.servers ≡ blocks.servers
+  pub fragment : blocks.log.fragment ≡ blocks.fragment
   pub room : blocks.log.room ≡ (blocks.servers - 1) * blocks.fragment
   pub block : blocks.log.block ≡ blocks.block
 

@@ -84,14 +84,14 @@ impl Blocks {
         ensures stripes { StripesHold self.new }
     {
         plan_keeps_stripes();
-        let (placed, flush) = flush(&self.log, alloc, blocks)?;
-        match commit(&mut self.servers, &mut self.ends, alloc, &self.geo, &flush) {
+        let (placed, fresh) = flush(&self.log, alloc, blocks)?;
+        match commit(&mut self.servers, &mut self.ends, alloc, &self.geo, &fresh) {
             Ok(()) => {
-                self.log.go_on(&placed, flush);
+                self.log.go_on(&placed, fresh);
                 Ok(placed.ptrs)
             }
             Err(NoMemory) => {
-                leave(&mut self.log, &flush);
+                leave(&mut self.log, &fresh);
                 Err(NoMemory)
             }
         }

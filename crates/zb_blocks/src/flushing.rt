@@ -1,18 +1,19 @@
 ghost use Rattle.std.specs.Prelude.{◌≡◌, ℕ, ◌-◌, ◌*◌, ◌^◌, ◌<◌, ◌≤◌, None, All, IfOk, OnOk, OnErr, length, map, slice_index};
 ghost use Rattle.zb_holding.specs.Carrying.{carried_all};
-ghost use Rattle.zb_stripe.specs.Writing.{plan_requests, IsWritable, StripesRise};
-ghost use Rattle.zb_stripe_laws.specs.PartAtWork.{MayBegin, StripesDiffer};
+ghost use Rattle.zb_stripe.specs.declared.flush.Flush.{Flush};
+ghost use Rattle.zb_stripe.specs.Writing.{plan_requests};
+ghost use Rattle.zb_stripe.specs.Fresh.{IsFreshFlush, HasRoom};
 ghost use Rattle.zb_log.specs.Placing.{AreBlocks};
-ghost use Rattle.zb_log.specs.Sealing.{GoesNext};
+ghost use Rattle.zb_log.specs.Sealing.{LiesAhead};
 ghost use Rattle.zb_log.specs.Logs.{last_of};
-ghost use Rattle.zb_plain.specs.Standing.{maps_of, seen_at};
+ghost use Rattle.zb_plain.specs.Standing.{maps_of};
 ghost use Rattle.zb_plain.specs.Delivering.{IsBegun};
-ghost use Rattle.zb_blocks.specs.Flushing.{IsFlushed, behind_part, end_after, CanEnter};
+ghost use Rattle.zb_blocks.specs.Flushing.{HasFlushed, MayCommit, behind_part, end_new, CanEnter};
 
 use std::alloc::Global;
 use zb_log::{LogBuf, Placed};
 use zb_plain::PlainServers;
-use zb_stripe::{Flush, Part};
+use zb_stripe::{Fresh, FreshFlush};
 use zb_types::{ByteList, Class, Geometry, Mem, NoMemory};
 
 /// The length of each block, in bytes.
@@ -27,27 +28,27 @@ fn lengths(alloc: Global, blocks: &[ByteList]) -> Mem<Vec<u32>>
     Ok(lens)
 }
 
-/// Places blocks next in a log, one behind the other, and gives their addresses and the parts of their stripes.
-pub(crate) fn flush(log: &LogBuf, alloc: Global, blocks: &[ByteList]) -> Mem<(Placed, Flush)>
+/// Places blocks next in a log, one behind the other, and gives their addresses and what is new of their stripes.
+pub(crate) fn flush(log: &LogBuf, alloc: Global, blocks: &[ByteList]) -> Mem<(Placed, FreshFlush)>
     requires small { log.now.block < 2 ^ 32 }
     requires sizes { AreBlocks log.now.block (map length blocks.now) }
-    ensures { IfOk result (λ made. IsFlushed log.now blocks.now made.0 made.1) }
+    ensures { IfOk result (λ made. HasFlushed log.now blocks.now made.0 made.1) }
 {
     let lens = lengths(alloc, blocks)?;
     let meta = ByteList::new(alloc)?;
     let Ok(placed) = log.place(alloc, 0, &lens) else {
         return Err(NoMemory);
     };
-    let flush = log.seal(alloc, &placed, &meta, blocks)?;
-    Ok((placed, flush))
+    let fresh = log.seal(alloc, &placed, &meta, blocks)?;
+    Ok((placed, fresh))
 }
 
 /// Lets a log go on behind the last stripe of a flush.
-pub(crate) fn leave(log: &mut LogBuf, flush: &Flush)
-    requires { All (GoesNext log.old.room log.old.next.stripe log.old.bytes) flush.now.parts }
-    ensures { log.new ≡ behind_part log.old (last_of flush.now.parts) }
+pub(crate) fn leave(log: &mut LogBuf, fresh: &FreshFlush)
+    requires { All (LiesAhead log.old.next.stripe) fresh.now.parts }
+    ensures { log.new ≡ behind_part log.old (last_of fresh.now.parts) }
 {
-    if let Some(last) = flush.parts.slice().last() {
+    if let Some(last) = fresh.parts.slice().last() {
         log.next_stripe(last.stripe);
     }
 }
@@ -64,13 +65,13 @@ fn reach(ends: &mut Vec<u32>, stripe: u64) -> Mem<()>
 }
 
 /// Enters the ends of the stripes of some parts.
-fn enter(ends: &mut Vec<u32>, parts: &[Part])
+fn enter(ends: &mut Vec<u32>, parts: &[Fresh])
     requires { All (CanEnter (length ends.old.items)) parts.now }
     ensures { (stripe : ℕ) → slice_index ends.new.items stripe
-        ≡ end_after parts.now stripe (slice_index ends.old.items stripe) }
+        ≡ end_new parts.now stripe (slice_index ends.old.items stripe) }
 {
     for part in parts {
-        ends[part.stripe as usize] = part.bytes.len() as u32;
+        ends[part.stripe as usize] = part.begin + part.bytes.len() as u32;
     }
 }
 
@@ -81,29 +82,26 @@ pub(crate) fn commit(
     ends: &mut Vec<u32>,
     alloc: Global,
     geo: &Geometry,
-    flush: &Flush,
+    fresh: &FreshFlush,
 ) -> Mem<()>
     requires servers { length servers.old ≡ geo.now.servers }
-    requires fits { All (IsWritable ((geo.now.servers - 1) * geo.now.fragment)) flush.now.parts }
-    requires differ { StripesDiffer flush.now.parts }
-    requires rise { StripesRise flush.now.parts }
-    requires begin { All (MayBegin (seen_at geo.now servers.old) flush.now.log)
-        flush.now.parts }
-    ensures ok { OnOk result (maps_of servers.new ≡ carried_all (maps_of servers.old)
-        (plan_requests geo.now.servers geo.now.fragment None Class.Client flush.now)) }
+    requires fits { All (HasRoom ((geo.now.servers - 1) * geo.now.fragment)) fresh.now.parts }
+    requires may { MayCommit geo.now servers.old fresh.now }
+    ensures ok { OnOk result ((flush : Flush) → IsFreshFlush geo.now.servers geo.now.fragment flush fresh.now
+        → maps_of servers.new ≡ carried_all (maps_of servers.old) (plan_requests geo.now.servers geo.now.fragment None Class.Client flush)) }
     ensures entered { OnOk result ((stripe : ℕ) → slice_index ends.new.items stripe
-        ≡ end_after flush.now.parts stripe (slice_index ends.old.items stripe)) }
-    ensures err { OnErr result (IsBegun (maps_of servers.old) (maps_of servers.new)
-        (plan_requests geo.now.servers geo.now.fragment None Class.Client flush.now)) }
+        ≡ end_new fresh.now.parts stripe (slice_index ends.old.items stripe)) }
+    ensures err { OnErr result ((flush : Flush) → IsFreshFlush geo.now.servers geo.now.fragment flush fresh.now
+        → IsBegun (maps_of servers.old) (maps_of servers.new) (plan_requests geo.now.servers geo.now.fragment None Class.Client flush)) }
     ensures same { OnErr result ((stripe : ℕ) → slice_index ends.new.items stripe
         ≡ slice_index ends.old.items stripe) }
     ensures count { length servers.new ≡ length servers.old }
 {
-    let Some(last) = flush.parts.slice().last() else {
+    let Some(last) = fresh.parts.slice().last() else {
         return Ok(());
     };
     reach(ends, last.stripe)?;
-    servers.write(alloc, geo, flush, Class::Client)?;
-    enter(ends, flush.parts.slice());
+    servers.write(alloc, geo, fresh, Class::Client)?;
+    enter(ends, fresh.parts.slice());
     Ok(())
 }

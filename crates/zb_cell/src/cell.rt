@@ -1,6 +1,6 @@
 ghost use Rattle.std.specs.Prelude.{◌≡◌, ◌≢◌, ◌↔◌, ◌≤◌, ◌<◌, ◌+◌, ◌^◌, ◌&&◌, ◌==◌, true, false, if◌then◌else◌, ℕ, List, length, None, Some, MatchOption, IsTrue, IfOk, OnOk, IsErrOf, is_err, slice_index};
 ghost use Rattle.zb_outside.specs.Counts.{Touches, HasWritten, raised_by};
-ghost use Rattle.zb_outside.specs.Runs.{IsSettled, Held};
+ghost use Rattle.zb_outside.specs.Runs.{IsSettled, Held, SparesOthers};
 ghost use Rattle.zb_cell.specs.Cell.{value, value_of, bytes_at, counts, following, window, copy_for, turn_for, writes_for, IsBody};
 ghost use Rattle.zb_cell.specs.Set.{SetTold, CloseTold, IsReady};
 ghost use Rattle.zb_cell.specs.declared.cell.CellFault.TheVariants.{Blank, Stopped};
@@ -43,11 +43,11 @@ fn is_counted(bytes: &[u8; 128], at: usize) -> bool
     bytes[at] == 1 && bytes[at + 1] < 3
 }
 
-fn next(turn: u8) -> u8
-    requires { turn < 3 }
+/// The turn that follows a turn, as the one that replaces it has.
+pub fn following(turn: u8) -> u8
     ensures { result ≡ following turn }
 {
-    (turn + 1) % 3
+    ((u16::from(turn) + 1) % 3) as u8
 }
 
 fn work_on(bytes: &[u8; 128]) -> Work
@@ -57,16 +57,16 @@ fn work_on(bytes: &[u8; 128]) -> Work
 {
     let first = is_counted(bytes, 0);
     let second = is_counted(bytes, 64);
-    if first && !(second && bytes[65] == next(bytes[1])) {
+    if first && !(second && bytes[65] == following(bytes[1])) {
         return Work {
             at: 64,
-            turn: next(bytes[1]),
+            turn: following(bytes[1]),
             is_open: bytes[64] == 1,
         };
     }
     Work {
         at: 0,
-        turn: if second { next(bytes[65]) } else { 0 },
+        turn: if second { following(bytes[65]) } else { 0 },
         is_open: bytes[0] == 1,
     }
 }
@@ -89,6 +89,7 @@ fn close_gate<B: Bay>(bay: &mut B, platter: usize, place: u64, is_open: bool) ->
     requires range { place + 1 ≤ 2 ^ 63 }
     ensures told { IsTrue B.tells → IsReady platter place is_open (B.meaning bay.old).now → CloseTold platter place result (B.meaning bay.old) (B.meaning bay.new) }
     ensures zero { IsTrue B.tells → IsReady platter place is_open (B.meaning bay.old).now → is_open ≡ true → OnOk result (slice_index ((B.meaning bay.new).now.seen platter) place ≡ 0) }
+    ensures others { IsTrue B.tells → SparesOthers platter (B.meaning bay.old) (B.meaning bay.new) }
     ensures touches { Touches B.counts B.follows platter 1 (is_err result) bay.old bay.new }
     ensures written { HasWritten platter (if is_open then 1 else 0) (B.counts bay.old) (B.counts bay.new) }
 {
@@ -100,7 +101,8 @@ fn close_gate<B: Bay>(bay: &mut B, platter: usize, place: u64, is_open: bool) ->
 
 /// Puts a value into the cell of 128 bytes at this place. Where no write of the platter is unsynced and the cell lies
 /// within the platter, it holds at each moment the former value or this one, every other byte stays, and after Ok it holds
-/// this one with nothing unsynced. It takes three writes, or two where the gate of the copy that is free is closed.
+/// this one with nothing unsynced. It takes three writes, or two where the gate of the copy that is free is closed. The
+/// other platters are as before at each moment, whatever this one holds.
 ///
 /// `Stopped` comes only where a call of the platter failed.
 pub fn set<B: Bay>(
@@ -112,6 +114,7 @@ pub fn set<B: Bay>(
     requires platter { platter ≤ 255 }
     requires range { place + 128 ≤ 2 ^ 63 }
     ensures told { IsTrue B.tells → IsSettled platter (B.meaning bay.old).now → place + 128 ≤ length ((B.meaning bay.old).now.seen platter) → SetTold platter place payload.now result (B.meaning bay.old) (B.meaning bay.new) }
+    ensures others { IsTrue B.tells → SparesOthers platter (B.meaning bay.old) (B.meaning bay.new) }
     ensures blank { IsErrOf result CellFault.Blank → ⊥ }
     ensures touches { Touches B.counts B.follows platter 3 (is_stopped result) bay.old bay.new }
     ensures written { IsTrue B.tells → OnOk result (HasWritten platter (writes_for (bytes_at ((B.meaning bay.old).now.seen platter) place)) (B.counts bay.old) (B.counts bay.new)) }
@@ -133,7 +136,7 @@ fn holder(bytes: &[u8; 128]) -> Option<usize>
 {
     let first = is_counted(bytes, 0);
     let second = is_counted(bytes, 64);
-    if second && (!first || bytes[65] == next(bytes[1])) {
+    if second && (!first || bytes[65] == following(bytes[1])) {
         return Some(64);
     }
     if first { Some(0) } else { None }

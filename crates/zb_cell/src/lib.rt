@@ -4,5 +4,5 @@
 mod cell;
 mod laws;
 
-pub use cell::{CellFault, get, set};
+pub use cell::{CellFault, following, get, set};
 pub use laws::cell_depends_on_its_bytes;

@@ -1,7 +1,6 @@
 -- A platter that is made anew, and the store on it.
 use Rattle.std.proofs.Common.{◌≡◌, ℕ, ◌<◌, List, Result, Ok, Err, IsErr, IfOk, MatchResult, sym, ◌∙◌, ap, subst}
 use Rattle.zb_outside.specs.Meaning.{Meaning}
-use Rattle.zb_outside.proofs.Runs.{started}
 use Rattle.zb_types.specs.declared.memory.Failed.{Failed}
 use Rattle.zb_types.specs.declared.geometry.Geometry.{Geometry}
 use Rattle.zb_types.specs.declared.ids.ServerId.{ServerId}
@@ -11,12 +10,9 @@ use Rattle.zb_index.specs.Seen.{SeenIndex}
 use Rattle.zb_slots.specs.Slots.{slots_in}
 use Rattle.zb_slot_map.specs.Super.{super_text, FormatTold}
 use Rattle.zb_fragstore.specs.Answers.{or_stopped}
+use Rattle.zb_slot_map.proofs.Changes.{tidy_sound}
 use Rattle.zb_fragstore.specs.Changing.{IsOpen}
-
--- no call was made
-pub not_begun : {T E : Type 0} (geo : Geometry) (p : ℕ) (text : List ℕ) (r : Result T E) (a : Meaning) → IsErr r → FormatTold geo p text r a a
-not_begun geo p text (Ok x) a err = absurd (cc err)
-not_begun geo p text (Err e) a err = record { run = started p (λ _. Unit {0}) a (λ i h. tt); settled = tt; formatted = tt }
+use Rattle.zb_fragstore.specs.Opening.{Formats}
 
 ok_of : (r : Result (Unit {0}) Failed) (u : Unit {0}) → Ok u ≡ or_stopped r → r ≡ Ok u
 ok_of (Ok v) u e = let same : v ≡ u = sym (cc e) in ap (λ (x : Unit {0}). Ok x) same
@@ -37,16 +33,24 @@ module _ (geo : Geometry) (server : ServerId) (fence p : ℕ) (a b : Meaning) (r
   here : FormatTold geo server.0 text r a b
   here = subst (λ (q : ℕ). FormatTold geo q text r a b) p_is told
 
-  pub format_stopped : {T E : Type 0} (result : Result T E) → IsErr result → FormatTold geo server.0 text result a b
+  pub format_stopped : {T E : Type 0} (result : Result T E) → IsErr result → Formats geo server fence result a b
   format_stopped (Ok x) err = absurd (cc err)
-  format_stopped (Err e) err = record { run = here.run; settled = tt; formatted = tt }
+  format_stopped (Err e) err = record { others = here.run; settled = tt; made = tt }
 
   module _ (u : Unit {0}) (is : Ok u ≡ or_stopped r) where
     done : FormatTold {E = Failed} geo server.0 text (Ok u) a b
     done = subst (λ (x : Result (Unit {0}) Failed). FormatTold geo server.0 text x a b) (ok_of r u is) here
 
-    pub format_done : {T E : Type 0} (x : T) → FormatTold {E = E} geo server.0 text (Ok x) a b
-    format_done x = record { run = done.run; settled = done.settled; formatted = done.formatted }
+    pub format_done : {T E : Type 0} (x : T) → Formats {E = E} geo server fence (Ok x) a b
+    format_done x = record {
+      others = done.run;
+      settled = done.settled;
+      made = record {
+        own = record { own = done.formatted.super; sound = tidy_sound geo (b.now.seen server.0) done.formatted.tidy; holds = done.formatted.map };
+        size = done.formatted.size;
+        free = done.formatted.free;
+      };
+    }
 
     pub format_open : (index : SeenIndex) → IsAllFree geo index → IsOpen (record { geo = geo; server = server; index = index; fence = fence }) b.now
     format_open index is_index = record {

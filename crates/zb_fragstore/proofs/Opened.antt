@@ -23,9 +23,6 @@ use Rattle.zb_fragstore.specs.declared.faults.OpenFault.TheVariants.{Blank, Dama
 whole_still : (geo : Geometry) (image : List ℕ) → StaysWhole geo image image
 whole_still geo image = record { sound = λ s. s; super = refl; size = refl; map = λ id. refl }
 
-whole_same : (geo : Geometry) (old new : List ℕ) → StaysSame geo old new → StaysWhole geo old new
-whole_same geo old new h = record { sound = λ _. h.sound; super = h.super; size = h.size; map = h.map }
-
 -- a platter that was looked at
 looked : (geo : Geometry) (p : ℕ) (a b : Meaning) → IsSettled p a.now → LeftAlone p a b → Run p (StaysWhole geo (a.now.seen p)) a b
 looked geo p a b settled alone = weaker_run alone.run (λ image may. subst (StaysWhole geo (a.now.seen p)) (sym (settled.only image may)) (whole_still geo (a.now.seen p)))
@@ -95,7 +92,7 @@ module _ (geo : Geometry) (server : ServerId) (fence p : ℕ) (a b : Meaning) (h
           (subst (λ (i : List ℕ). HasOlder geo i older) (sym all.seen) built_here.twins)
 
       pub free_run : {T E : Type 0} (r : Result T E) → Clause r p freed → Run server.0 (StaysWhole geo image) a d
-      free_run r clause = then_run (looked geo server.0 a c settled all) (weaker_run (told r clause).run (whole_same geo (c.now.seen server.0)))
+      free_run r clause = then_run (looked geo server.0 a c settled all) (told r clause).run
           (λ i h. subst (λ (from : List ℕ). StaysWhole geo from i) all.seen h)
 
       pub opened_by : {T E : Type 0} (u : T) → Clause {E = E} (Ok u) p freed → IsOpened (record { geo = geo; server = server; index = index; fence = fence }) a d

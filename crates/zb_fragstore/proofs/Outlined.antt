@@ -8,11 +8,11 @@ use Rattle.zb_types.specs.declared.requests.Request.TheVariants as ask
 use Rattle.zb_types.specs.declared.requests.StoreFault.{StoreFault}
 use Rattle.zb_types.specs.declared.requests.StoreFault.TheVariants.{NoFragment, OldGeneration}
 use Rattle.zb_holding.specs.Fragments.{Fragment}
-use Rattle.zb_holding.specs.Rules.{share_size, parity_size, size_of, outline_of, unless_old, unless_there, known_refusal}
+use Rattle.zb_holding.specs.Rules.{Size, share_size, parity_size, size_of, outline_of, unless_old, unless_there, known_refusal}
 use Rattle.zb_holding.proofs.Ruled.{same_refusal}
 use Rattle.zb_index.specs.declared.spot.Spot.{Spot}
 use Rattle.zb_index.specs.Seen.{spot_of}
-use Rattle.zb_fragstore.specs.Seen.{SeenStore, is_there, is_share, size_by, size_at, size_in, known, holding}
+use Rattle.zb_fragstore.specs.Seen.{SeenStore, is_there, is_share, length_of, size_by, size_at, size_in, known, holding}
 use Rattle.zb_fragstore.specs.Changing.{IsOpen, map_in}
 use Rattle.zb_fragstore.proofs.Absent.{absent}
 use Rattle.zb_fragstore.proofs.Found.{share_at, parity_at}
@@ -20,6 +20,18 @@ use Rattle.zb_fragstore.proofs.Found.{share_at, parity_at}
 some_map : {A B : Type 0} (f : A → B) (o : Option A) → is_some (option_map f o) ≡ is_some o
 some_map f None = refl
 some_map f (Some x) = refl
+
+-- the size of so many bytes under a name
+abbrev pub sized : SeenStore → FragId → Option ℕ → Option Size
+sized store id len = option_map (size_by (is_share store id) (store.geo.servers - 1)) len
+
+by_spot : (store : SeenStore) (id : FragId) (spot : Option Spot) → option_map (size_at store id) spot ≡ sized store id (option_map (λ s. s.len) spot)
+by_spot store id None = refl
+by_spot store id (Some spot) = refl
+
+-- a size is told by a length
+pub by_length : (store : SeenStore) (id : FragId) → size_in store id ≡ sized store id (length_of store id)
+by_length store id = by_spot store id (spot_of store.index id)
 
 -- a name is there just where its size is known
 pub there_known : (store : SeenStore) (id : FragId) → is_there store id ≡ is_some (size_in store id)

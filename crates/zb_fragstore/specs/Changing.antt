@@ -19,11 +19,15 @@ use Rattle.zb_fragstore.specs.Answers.{HasStopped}
 abbrev pub map_in : SeenStore → Standing → FragId → Option Fragment
 map_in store s = map_on store.geo (s.seen store.server.0)
 
+-- what a store keeps in memory of its slots is what this image tells
+abbrev pub Knows : SeenStore → List ℕ → Type 0
+Knows store image = IsIndexOf store.index store.geo.slots (slots_in store.geo image)
+
 -- no write of the platter is unsynced, and what the store keeps in memory is what its platter tells
 pub record IsOpen (store : SeenStore) (s : Standing) : Type 0 where
   pub kept : IsKept store.geo store.server.0 s
   pub super : HasFence store.geo store.server store.fence (s.seen store.server.0)
-  pub index : IsIndexOf store.index store.geo.slots (slots_in store.geo (s.seen store.server.0))
+  pub index : Knows store (s.seen store.server.0)
 
 -- an image of a store's platter whose map and whose fence are each the former or those that a request leaves
 pub record IsBetween (store : SeenStore) (request : Request) (old new : List ℕ) : Type 0 where

@@ -5,6 +5,7 @@ use Rattle.zb_types.specs.declared.geometry.Geometry.{Geometry}
 use Rattle.zb_types.specs.declared.ids.FragId.{FragId}
 use Rattle.zb_types.specs.declared.ids.ServerId.{ServerId}
 use Rattle.zb_holding.specs.Fragments.{Fragment}
+use Rattle.zb_slots.specs.Slots.{slot_place}
 use Rattle.zb_slots.specs.Holding.{map_of, free_of, IsLarge}
 use Rattle.zb_slot_map.specs.Tidy.{IsSound}
 use Rattle.zb_slot_map.specs.Super.{super_text}
@@ -16,6 +17,10 @@ map_on geo image = map_of geo image
 -- how many slots of an image are free
 abbrev pub free_on : Geometry → List ℕ → ℕ
 free_on geo image = free_of geo image
+
+-- how many bytes all that a server keeps takes
+abbrev pub room_of : Geometry → ℕ
+room_of geo = slot_place geo.fragment geo.slots
 
 -- the image is long enough for all that a server keeps
 abbrev pub IsWhole : Geometry → List ℕ → Type 0

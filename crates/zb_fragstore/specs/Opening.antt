@@ -1,11 +1,12 @@
 -- What opening a store does, and when it doesn't.
-use Rattle.std.specs.Prelude.{◌≡◌, ℕ, ◌+◌, ◌<◌, ◌^◌, Bool, true, false, List, length, None, Result, Err}
+use Rattle.std.specs.Prelude.{◌≡◌, ℕ, ◌+◌, ◌<◌, ◌^◌, Bool, true, false, List, length, None, Result, Err, OnOk}
 use Rattle.zb_outside.specs.Meaning.{Meaning}
+use Rattle.zb_outside.specs.Runs.{IsSettled, SparesOthers}
 use Rattle.zb_cell.specs.Cell.{value}
 use Rattle.zb_types.specs.declared.geometry.Geometry.{Geometry}
 use Rattle.zb_types.specs.declared.ids.FragId.{FragId}
 use Rattle.zb_types.specs.declared.ids.ServerId.{ServerId}
-use Rattle.zb_slots.specs.Slots.{Slot, slot_place}
+use Rattle.zb_slots.specs.Slots.{Slot}
 use Rattle.zb_slot_map.specs.Zeros.{pieces}
 use Rattle.zb_slots.specs.declared.read_fault.ReadFault.{ReadFault}
 use Rattle.zb_slots.specs.declared.read_fault.ReadFault.TheVariants as reading
@@ -15,11 +16,10 @@ use Rattle.zb_index.specs.Indexed.{IsIndexOf}
 use Rattle.zb_index.specs.Seen.{SeenIndex}
 use Rattle.zb_index.specs.Twins.{NoneIsBad, IsFirstBad, AreOlder, AreFreed}
 use Rattle.zb_slots.specs.Slots.{slots_in}
-use Rattle.zb_slots.specs.Holding.{map_of}
-use Rattle.zb_slot_map.specs.Tidy.{IsSound}
+use Rattle.zb_slot_map.specs.Freeing.{StaysSame}
 use Rattle.zb_slot_map.specs.Super.{IsOf}
 use Rattle.zb_fragstore.specs.Seen.{SeenStore}
-use Rattle.zb_fragstore.specs.Images.{HasFence}
+use Rattle.zb_fragstore.specs.Images.{free_on, room_of, HasFence, IsImageOf}
 use Rattle.zb_fragstore.specs.Changing.{map_in, IsOpen}
 use Rattle.zb_fragstore.specs.declared.faults.OpenFault.{OpenFault}
 use Rattle.zb_fragstore.specs.declared.faults.OpenFault.TheVariants.{Blank, Damaged, NoMemory, Stopped}
@@ -46,12 +46,22 @@ IsUnfit geo server image (Damaged slot) = IsOwn geo server image × IsFirstBad (
 IsUnfit geo server image NoMemory = IsOwn geo server image
 IsUnfit geo server image Stopped = Unit {0}
 
--- the super cell, the length and the map are as before, and no slot is bad if none was
-pub record StaysWhole (geo : Geometry) (old new : List ℕ) : Type 0 where
-  pub sound : IsSound geo old → IsSound geo new
-  pub super : value new 0 ≡ value old 0
-  pub size : length new ≡ length old
-  pub map : (id : FragId) → map_of geo new id ≡ map_of geo old id
+-- whose image it is, its length and its map are as before, and it is sound if it was
+abbrev pub StaysWhole : Geometry → List ℕ → List ℕ → Type 0
+StaysWhole geo old new = StaysSame geo old new
+
+-- an image of a server's platter with this fence that is just as long as a server needs, on which nothing is held and all slots
+-- are free
+pub record IsEmpty (geo : Geometry) (server : ServerId) (fence : ℕ) (image : List ℕ) : Type 0 where
+  pub own : IsImageOf geo server (λ id. None) fence image
+  pub size : length image ≡ room_of geo
+  pub free : free_on geo image ≡ geo.slots
+
+-- the platter may hold anything on the way, and the others are as before; after Ok it is empty, and no write is unsynced
+pub record Formats {T E : Type 0} (geo : Geometry) (server : ServerId) (fence : ℕ) (result : Result T E) (old new : Meaning) : Type 0 where
+  pub others : SparesOthers server.0 old new
+  pub settled : OnOk result (IsSettled server.0 new.now)
+  pub made : OnOk result (IsEmpty geo server fence (new.now.seen server.0))
 
 -- the store is open, and the map is as before
 pub record IsOpened (store : SeenStore) (a b : Meaning) : Type 0 where
@@ -65,7 +75,7 @@ opening_stopped result = false
 
 -- how many writes make a platter anew, at most
 abbrev pub format_writes : Geometry → ℕ
-format_writes geo = pieces (slot_place geo.fragment geo.slots) + 3
+format_writes geo = pieces (room_of geo) + 3
 
 -- why a store isn't opened whose platter wasn't read
 abbrev pub after_read : ReadFault → OpenFault

@@ -1,5 +1,6 @@
 ghost use Rattle.std.specs.Prelude.{◌≡◌, ◌≢◌, ◌⊎◌, ◌≤◌, ◌+◌, ℕ, Some, None, length, true, IsTrue, IfErr, OnOk, Err};
 ghost use Rattle.zb_outside.specs.Counts.{Touches};
+ghost use Rattle.zb_outside.specs.Runs.{SparesOthers};
 ghost use Rattle.zb_types.specs.declared.requests.Request.TheVariants as ask;
 ghost use Rattle.zb_holding.specs.Fragments.{Fragment};
 ghost use Rattle.zb_index.specs.Seen.{spot_of};
@@ -38,6 +39,7 @@ impl FragStore {
         ensures free { OnOk result (free_of self.new ≡ free_of self.old) }
         ensures told { IsTrue B.tells → IsOpen self.old (B.meaning bay.old).now
             → CarriesOut (ask.Append id spot.len bytes.now) self.old self.new result (B.meaning bay.old) (B.meaning bay.new) }
+        ensures others { IsTrue B.tells → SparesOthers self.old.server.0 (B.meaning bay.old) (B.meaning bay.new) }
         ensures system { IsStoreOf self.old.geo self.old.server self.new }
         ensures touches { Touches B.counts B.follows self.old.server.0 4 (is_stopped result) bay.old bay.new }
     {
@@ -77,6 +79,7 @@ impl FragStore {
         ensures free { OnOk result (free_of self.new ≡ free_of self.old) }
         ensures told { IsTrue B.tells → IsOpen self.old (B.meaning bay.old).now
             → CarriesOut (ask.Append id place bytes.now) self.old self.new result (B.meaning bay.old) (B.meaning bay.new) }
+        ensures others { IsTrue B.tells → SparesOthers self.old.server.0 (B.meaning bay.old) (B.meaning bay.new) }
         ensures system { IsStoreOf self.old.geo self.old.server self.new }
         ensures touches { Touches B.counts B.follows self.old.server.0 4 (is_stopped result) bay.old bay.new }
     {
@@ -132,6 +135,7 @@ impl FragStore {
         ensures free { OnOk result (free_of self.new ≡ free_of self.old) }
         ensures told { IsTrue B.tells → IsOpen self.old (B.meaning bay.old).now
             → CarriesOut (ask.Append id place bytes.now) self.old self.new result (B.meaning bay.old) (B.meaning bay.new) }
+        ensures others { IsTrue B.tells → SparesOthers self.old.server.0 (B.meaning bay.old) (B.meaning bay.new) }
         ensures system { IsStoreOf self.old.geo self.old.server self.new }
         ensures touches { Touches B.counts B.follows self.old.server.0 4 (is_stopped result) bay.old bay.new }
     {

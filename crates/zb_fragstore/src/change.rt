@@ -1,5 +1,6 @@
 ghost use Rattle.std.specs.Prelude.{◌≡◌, ◌≢◌, ◌≤◌, ◌<◌, ◌+◌, ℕ, Some, None, length, IsTrue, IfErr, OnOk, Err};
 ghost use Rattle.zb_outside.specs.Counts.{Touches};
+ghost use Rattle.zb_outside.specs.Runs.{SparesOthers};
 ghost use Rattle.zb_types.specs.declared.requests.Request.TheVariants as ask;
 ghost use Rattle.zb_fragstore.specs.Seen.{free_of, IsStoreOf, ChangesLength, TakesLeastSlot};
 ghost use Rattle.zb_fragstore.specs.Answers.{IsUnforeseen, is_stopped};
@@ -41,6 +42,7 @@ impl FragStore {
         ensures least { OnOk result (TakesLeastSlot id self.old self.new) }
         ensures told { IsTrue B.tells → IsOpen self.old (B.meaning bay.old).now
             → CarriesOut (ask.Store id bytes.now class) self.old self.new result (B.meaning bay.old) (B.meaning bay.new) }
+        ensures others { IsTrue B.tells → SparesOthers self.old.server.0 (B.meaning bay.old) (B.meaning bay.new) }
         ensures system { IsStoreOf self.old.geo self.old.server self.new }
         ensures touches { Touches B.counts B.follows self.old.server.0 4 (is_stopped result) bay.old bay.new }
     {
@@ -65,6 +67,7 @@ impl FragStore {
         ensures free { OnOk result (free_of self.new ≡ free_of self.old + 1) }
         ensures told { IsTrue B.tells → IsOpen self.old (B.meaning bay.old).now
             → CarriesOut (ask.Delete id) self.old self.new result (B.meaning bay.old) (B.meaning bay.new) }
+        ensures others { IsTrue B.tells → SparesOthers self.old.server.0 (B.meaning bay.old) (B.meaning bay.new) }
         ensures system { IsStoreOf self.old.geo self.old.server self.new }
         ensures touches { Touches B.counts B.follows self.old.server.0 3 (is_stopped result) bay.old bay.new }
     {
@@ -86,6 +89,7 @@ impl FragStore {
         ensures kept { generation ≡ self.old.fence → bay.new ≡ bay.old }
         ensures told { IsTrue B.tells → IsOpen self.old (B.meaning bay.old).now
             → CarriesOut (ask.Fence generation) self.old self.new result (B.meaning bay.old) (B.meaning bay.new) }
+        ensures others { IsTrue B.tells → SparesOthers self.old.server.0 (B.meaning bay.old) (B.meaning bay.new) }
         ensures system { IsStoreOf self.old.geo self.old.server self.new }
         ensures touches { Touches B.counts B.follows self.old.server.0 3 (is_stopped result) bay.old bay.new }
     {

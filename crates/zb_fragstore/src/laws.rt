@@ -1,4 +1,4 @@
-ghost use Rattle.zb_fragstore.specs.Laws.{FenceIsOne, ImageIsWhole, OwnImageOpens, FreeIsKnown};
+ghost use Rattle.zb_fragstore.specs.Laws.{FenceIsOne, ImageIsWhole, OwnImageOpens, FreeIsKnown, RoomForAll, NamesAreKnown, AllAreNamed};
 
 /// The super cell of a platter tells one fence.
 pub fn a_fence_is_one()
@@ -18,4 +18,19 @@ pub fn an_own_image_opens()
 /// A store knows how many slots of its platter are free.
 pub fn free_slots_are_known()
     ensures { FreeIsKnown }
+{}
+
+/// The names that a platter holds and its free slots are together no more than its slots.
+pub fn room_for_all()
+    ensures { RoomForAll }
+{}
+
+/// A store has in memory just the names that its platter holds.
+pub fn names_are_known()
+    ensures { NamesAreKnown }
+{}
+
+/// All names that a platter holds are named by the answers to `identify`, the least first.
+pub fn all_are_named()
+    ensures { AllAreNamed }
 {}

@@ -7,11 +7,14 @@ mod change;
 mod faults;
 mod laws;
 mod open;
-mod parity;
-mod read;
+mod replace_parity;
+mod retrieve;
 mod slots;
 mod store;
 
 pub use faults::OpenFault;
-pub use laws::{a_fence_is_one, an_image_is_whole, an_own_image_opens, free_slots_are_known};
+pub use laws::{
+    a_fence_is_one, all_are_named, an_image_is_whole, an_own_image_opens, free_slots_are_known,
+    names_are_known, room_for_all,
+};
 pub use store::FragStore;

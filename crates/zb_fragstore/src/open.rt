@@ -1,6 +1,6 @@
 ghost use Rattle.std.specs.Prelude.{◌*◌, ◌≡◌, ◌≢◌, ◌≤◌, ◌<◌, ◌^◌, ℕ, length, All, None, Some, IsTrue, IfOk, IfErr};
 ghost use Rattle.zb_outside.specs.Counts.{Touches};
-ghost use Rattle.zb_outside.specs.Runs.{Run, IsSettled, Held};
+ghost use Rattle.zb_outside.specs.Runs.{Run, IsSettled, Held, SparesOthers};
 ghost use Rattle.zb_cell.specs.Cell.{value};
 ghost use Rattle.zb_types.specs.declared.ids.FragId.{FragId};
 ghost use Rattle.zb_slots.specs.Slots.{Slot};
@@ -9,14 +9,14 @@ ghost use Rattle.zb_slots.specs.Showing.{AllMayStand};
 ghost use Rattle.zb_slots.specs.Shown.{AreShownBy};
 ghost use Rattle.zb_slots.specs.Slots.{slots_in};
 ghost use Rattle.zb_slots.specs.Holding.{IsLarge};
-ghost use Rattle.zb_slot_map.specs.Super.{super_text, FormatTold, IsOf};
+ghost use Rattle.zb_slot_map.specs.Super.{IsOf};
 ghost use Rattle.zb_fragstore.specs.declared.faults.OpenFault.TheVariants as fault;
 ghost use Rattle.zb_fragstore.specs.Seen.{free_of, length_of, IsStoreOf};
 ghost use Rattle.zb_fragstore.specs.Ranges.{AreInRange};
 ghost use Rattle.zb_fragstore.specs.Changing.{IsOpen};
 ghost use Rattle.zb_fragstore.specs.Answers.{IsUnforeseen, is_stopped};
 ghost use Rattle.zb_fragstore.specs.Reading.{IsLookedAt};
-ghost use Rattle.zb_fragstore.specs.Opening.{opening_stopped, format_writes, IsGood, IsUnfit, StaysWhole, IsOpened, IsBuilt, TellsSlots, after_read, after_index};
+ghost use Rattle.zb_fragstore.specs.Opening.{opening_stopped, format_writes, IsGood, IsUnfit, StaysWhole, Formats, IsOpened, IsBuilt, TellsSlots, after_read, after_index};
 
 use crate::faults::{OpenFault, or_stopped, starved};
 use crate::store::FragStore;
@@ -122,7 +122,7 @@ impl FragStore {
         ensures none { IfOk result (λ store. (id : FragId) → length_of store id ≡ None) }
         ensures answer { IfErr result IsUnforeseen }
         ensures still { IfErr result (λ fault. fault ≢ StoreFault.Stopped → bay.new ≡ bay.old) }
-        ensures told { IsTrue B.tells → FormatTold geo.now server.0 (super_text geo.now server.0 fence) result (B.meaning bay.old) (B.meaning bay.new) }
+        ensures told { IsTrue B.tells → Formats geo.now server fence result (B.meaning bay.old) (B.meaning bay.new) }
         ensures is_open { IsTrue B.tells → IfOk result (λ store. IsOpen store (B.meaning bay.new).now) }
         ensures touches { Touches B.counts B.follows server.0 (format_writes geo.now) (is_stopped result) bay.old bay.new }
     {
@@ -140,7 +140,8 @@ impl FragStore {
     ///
     /// `Blank` comes exactly where the super cell has no value or isn't this server's of this system, and else `Damaged`
     /// only where a slot is bad, with the first such; where there is no room for the headers, `NoMemory` may come in its
-    /// place. `NoMemory` never comes for a platter of another. After these faults the platter is as it was.
+    /// place. `NoMemory` never comes for a platter of another. After these faults the platter is as it was. The other
+    /// platters are as before at each moment, whatever this one holds.
     pub fn open<B: Bay>(
         alloc: Global,
         bay: &mut B,
@@ -154,6 +155,7 @@ impl FragStore {
         ensures told { IsTrue B.tells → IsSettled server.0 (B.meaning bay.old).now
             → IsLarge geo.now ((B.meaning bay.old).now.seen server.0)
             → Run server.0 (StaysWhole geo.now ((B.meaning bay.old).now.seen server.0)) (B.meaning bay.old) (B.meaning bay.new) }
+        ensures others { IsTrue B.tells → SparesOthers server.0 (B.meaning bay.old) (B.meaning bay.new) }
         ensures is_open { IsTrue B.tells → IsSettled server.0 (B.meaning bay.old).now
             → IsLarge geo.now ((B.meaning bay.old).now.seen server.0)
             → IfOk result (λ store. IsOpened store (B.meaning bay.old) (B.meaning bay.new)) }

@@ -1,5 +1,5 @@
 -- Where nothing befell, no line tells a fault.
-use Rattle.std.proofs.Common.{◌≡◌, ℕ, Bool, true, false, not, ◌&&◌, ◌||◌, List, [], ◌∷◌, ◌++◌, suc, Option, Some, None, refl, sym, ap, ◌∙◌, arith, inl, inr}
+use Rattle.std.proofs.Common.{◌≡◌, ℕ, Bool, true, false, not, ◌&&◌, ◌||◌, List, [], ◌∷◌, ◌++◌, suc, Option, Some, None, refl, sym, ap, ◌∙◌, inl, inr}
 use Rattle.std.specs.Prelude.{◌⊎◌}
 use Rattle.std.specs.List.{list_any}
 use Rattle.zb_types.specs.declared.nodes.Cause.{Cause}
@@ -20,7 +20,7 @@ use Rattle.zb_types.specs.declared.lines.Mended.TheVariants.{Copied, Another as 
 use Rattle.zb_types.specs.declared.lines.Told.TheVariants.{Arm}
 use Rattle.zb_types.specs.declared.lines.Outcome.{Outcome}
 use Rattle.zb_types.specs.declared.lines.Outcome.TheVariants.{Call as OfCall, Clean as OfClean, Rebuild as OfRebuild, Event as OfEvent}
-use Rattle.zb_claims.specs.Points.{Subject, calls, cleans, crashes, ups, rebuilds, asked, told_of, is_begun, is_event, stands_from, stands}
+use Rattle.zb_claims.specs.Points.{Subject, calls, cleans, crashes, ups, rebuilds, asked, told_of, is_event, stands_from, stands}
 use Rattle.zb_headline.specs.Reasons.{Place, Rose, WasArmed, is_copied, puts_up, is_lost, takes_down, breaks, platter_of, crashed_from, dropped_in, ServerReason, ManagerReason, NodeReason, CauseReason, is_blank, MendedFails, HasReason}
 use Rattle.zb_headline.specs.Calm.{calm, place, befalls, is_faultless, CalmIsFaultless}
 use Rattle.zb_laws.proofs.Tests.{first_false, last_false, any_middle, any_later}

@@ -1,18 +1,18 @@
 -- What no run may do.
-use Rattle.std.proofs.Common.{◌≡◌, ℕ, suc, true, false, Bool, List, [], ◌∷◌, ◌++◌, length, length-append, Option, Some, None, refl, sym, ap, ◌∙◌, ◌+◌, arith, inl, inr}
+use Rattle.std.proofs.Common.{◌≡◌, ℕ, true, false, Bool, List, [], ◌∷◌, length, length-append, Option, Some, None, refl, sym, ap, ◌∙◌, ◌+◌, arith, inl, inr}
 use Rattle.std.specs.Prelude.{◌⊎◌}
 use Rattle.std.specs.List.{list_any}
 use Rattle.zb_types.specs.declared.nodes.EventAnswer.TheVariants.{Done as EventDone, Stopped}
 use Rattle.zb_types.specs.declared.nodes.Node.TheVariants.{Manager}
 use Rattle.zb_types.specs.declared.lines.Told.TheVariants.{Arm, Up}
-use Rattle.zb_types.specs.declared.lines.Mended.TheVariants.{Copied, Server as FailedServer}
+use Rattle.zb_types.specs.declared.lines.Mended.TheVariants.{Copied}
 use Rattle.zb_types.specs.declared.lines.Outcome.{Outcome}
 use Rattle.zb_types.specs.declared.lines.Outcome.TheVariants.{Rebuild as OfRebuild, Event as OfEvent}
 use Rattle.zb_types.specs.declared.lines.Line.{Line}
 use Rattle.zb_claims.specs.Points.{rebuilds, has_plus}
 use Rattle.zb_headline.specs.Reasons.{HasReason, InSpan, MendedFails, breaks}
 use Rattle.zb_headline.specs.Calm.{calm, place}
-use Rattle.zb_headline.specs.Wrong.{rearmed_script, mending_script, early_faults, made, WrongClaims}
+use Rattle.zb_headline.specs.Wrong.{rearmed_script, mending_script, early_faults, WrongClaims}
 
 rearmed : HasReason (place (calm (λ platter n. 100)) rearmed_script (OfEvent (Arm Manager) EventDone ∷ [])) (OfEvent (Up Manager) (Stopped Manager)) → ⊥
 rearmed (inl h) = h
@@ -28,7 +28,7 @@ module _ where
 
   not_since : InSpan (place early_faults mending_script before) (rebuilds 2) (λ front rest. (list_any (breaks 2) rest ≡ true) ⊎ (length front ≡ 0)) → ⊥
   not_since span =
-      let none : span.rest ≡ [] = span.at_once (sym (ap plus_of span.is)) in
+      let none : span.rest ≡ [] = span.begins.at_once (sym (ap plus_of span.begins.is)) in
       let one : 1 ≡ length span.front + length span.rest = ap length span.split ∙ length-append span.front span.rest in
       elim span.holds [
         | inl broke ↦ let e : false ≡ true = sym (ap (list_any (breaks 2)) none) ∙ broke in absurd cc

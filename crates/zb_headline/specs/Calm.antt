@@ -1,5 +1,5 @@
 -- Reasons: where nothing befell no line tells a fault, and the faults of the worked rows have their reasons.
-use Rattle.std.specs.Prelude.{◌≡◌, ℕ, ◌≤◌, Bool, true, false, List, [], ◌∷◌, ◌++◌}
+use Rattle.std.specs.Prelude.{◌≡◌, ℕ, ◌≤◌, Bool, true, false, List, [], ◌++◌}
 use Rattle.std.specs.List.{list_any}
 use Rattle.zb_types.specs.declared.nodes.EventAnswer.TheVariants.{Done as EventDone, Up as IsUp}
 use Rattle.zb_types.specs.declared.lines.Line.{Line}
@@ -9,7 +9,7 @@ use Rattle.zb_types.specs.declared.lines.Mended.TheVariants.{Copied}
 use Rattle.zb_types.specs.declared.lines.Outcome.{Outcome}
 use Rattle.zb_types.specs.declared.lines.Outcome.TheVariants.{Call as OfCall, Clean as OfClean, Rebuild as OfRebuild, Event as OfEvent}
 use Rattle.zb_claims.specs.Fits.{clock_of_run}
-use Rattle.zb_headline.specs.Reasons.{Shown, Place, HasReason}
+use Rattle.zb_headline.specs.Reasons.{Shown, Place, HasReason, ReasonsFrom}
 use Rattle.zb_claims.specs.Rows.{hello_script, hello_report, two_script, two_report, armed_script, armed_report, dropped_script, dropped_report, down_script, down_report, eight_script, seven_lines, eight_lines}
 
 -- no device failed, each server is fit and has room; so many writes came to a platter since n lines stood
@@ -54,14 +54,9 @@ is_faultless line = false
 abbrev pub CalmIsFaultless : Type 0
 CalmIsFaultless = (script : List Line) (before : List Outcome) (line : Outcome) (writes : ℕ → ℕ → ℕ) → list_any befalls before ≡ false → HasReason (place (calm writes) script before) line → is_faultless line ≡ true
 
--- each line has its reason, by what is seen of the run
-abbrev pub ReasonsFrom : Shown → List Line → List Outcome → List Outcome → Type 0
-ReasonsFrom shown script before [] = Unit {0}
-ReasonsFrom shown script before (line ∷ lines) = HasReason (place shown script before) line × ReasonsFrom shown script (before ++ line ∷ []) lines
-
 -- each line has its reason, where this many writes came to each platter behind the first line
 abbrev pub AreReasoned : ℕ → List Line → List Outcome → Type 0
-AreReasoned written script lines = ReasonsFrom (calm (λ platter n. written)) script [] lines
+AreReasoned written script lines = ReasonsFrom (λ before line. place (calm (λ platter n. written)) script before) [] lines
 
 -- the lines of the worked rows have their reasons by the events alone; the armed platter stops at its second write
 pub record RowsReasoned : Type 0 where

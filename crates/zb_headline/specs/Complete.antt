@@ -12,8 +12,7 @@ use Rattle.zb_types.specs.declared.lines.Said.{Said}
 use Rattle.zb_types.specs.declared.lines.Said.TheVariants.{Reply as Replied, Buffered, Kept, Failed, Dropped, Unfinished}
 use Rattle.zb_types.specs.declared.lines.Pass.TheVariants.{Failed as PassFailed}
 use Rattle.zb_types.specs.declared.lines.Outcome.{Outcome}
-use Rattle.zb_types.specs.declared.lines.Outcome.TheVariants.{Call as OfCall, Clean as OfClean, Rebuild as OfRebuild, Event as OfEvent}
-use Rattle.zb_claims.specs.Points.{is_final}
+use Rattle.zb_types.specs.declared.lines.Outcome.TheVariants.{Call as OfCall, Clean as OfClean}
 use Rattle.zb_claims.specs.Script.{Row, whole, lines_in, Begins}
 use Rattle.zb_claims.specs.Runs.{all_ended, RunsNone}
 use Rattle.zb_headline.specs.Headline.{Witness, RunsSafely}

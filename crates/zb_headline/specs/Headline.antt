@@ -1,6 +1,6 @@
 -- The headline: what a run prints for the script that it takes is one history of the plain file tree, and at each moment
 -- the disks recover to the tree of that history so far, with or without the one batch whose commit is under way.
-use Rattle.std.specs.Prelude.{◌≡◌, ◌⊎◌, ℕ, Bool, true, List, [], ◌∷◌, ◌++◌, codes, Option, ◌==◌}
+use Rattle.std.specs.Prelude.{◌≡◌, ◌⊎◌, ℕ, Bool, true, List, [], ◌++◌, codes, Option, ◌==◌}
 use Rattle.std.specs.List.{list_any}
 use Rattle.zb_types.specs.declared.history.Did.{Did}
 use Rattle.zb_types.specs.declared.lines.Line.{Line}
@@ -13,7 +13,7 @@ use Rattle.zb_claims.specs.Text.{newline, report_text}
 use Rattle.zb_claims.specs.Script.{whole, lines_in}
 use Rattle.zb_claims.specs.Runs.{Tails, TellsTree, RunsScript, RunsNone}
 use Rattle.zb_headline.specs.Sights.{Sight}
-use Rattle.zb_headline.specs.Reasons.{ServerReason, ManagerReason, HasReason}
+use Rattle.zb_headline.specs.Reasons.{ServerReason, ManagerReason, ReasonsFrom}
 use Rattle.zb_headline.specs.Spans.{Course, Stand, place_in, place_of, place_at}
 use Rattle.zb_headline.specs.Ahead.{IsAhead}
 
@@ -34,18 +34,13 @@ pub record Prints (printed : List ℕ) (lines later : List Outcome) (tail : List
   pub front : part ++ more ≡ report_text later ++ tail
   pub whole : list_any (λ b. b == 10) part ≡ true → later ≡ []
 
--- each line has its reason, behind those before it
-abbrev pub ReasonsFrom : Course → List Outcome → List Outcome → Type 0
-ReasonsFrom c before [] = Unit {0}
-ReasonsFrom c before (line ∷ lines) = HasReason (place_of c before line) line × ReasonsFrom c (before ++ line ∷ []) lines
-
 -- the lines that were printed have their reasons
 pub record AreReasoned (c : Course) (bytes : List ℕ) (all : List Outcome) (tail : List ℕ) : Type 0 where
   pub lines : List Outcome
   pub later : List Outcome
   pub split : all ≡ lines ++ later
   pub printed : Prints bytes lines later tail
-  pub reasons : ReasonsFrom c [] lines
+  pub reasons : ReasonsFrom (place_of c) [] lines
 
 -- a line was printed whole
 abbrev pub is_shown : Moment → Bool

@@ -197,17 +197,21 @@ dropped_in at node (Some found) = crashed_from false at node found.0 [] at.befor
 
 -- Passes and rebuilds.
 
--- The span of the next line of this subject: behind the begin of its script line, and where that has no plus behind the
--- line before it.
+-- the n-th line of a script with this subject was begun at `front`, and is waited for where it has no plus
+pub record BeginsAt (script : List Line) (clock : Clock) (subject : Subject) (n : ℕ) (front rest : List Outcome) : Type 0 where
+  pub place : ℕ
+  pub line : Line
+  pub is : asked script subject n ≡ Some (place, line)
+  pub begun : clock.begun front place ≡ true
+  pub at_once : has_plus line ≡ false → rest ≡ []
+
+-- This holds in the span of the next line of this subject: behind the begin of its script line, and where that has no plus
+-- behind the line before it.
 pub record InSpan (at : Place) (subject : Subject) (P : List Outcome → List Outcome → Type 0) : Type 0 where
   pub front : List Outcome
   pub rest : List Outcome
   pub split : at.before ≡ front ++ rest
-  pub place : ℕ
-  pub line : Line
-  pub is : asked at.script subject (suc (told_of subject at.before)) ≡ Some (place, line)
-  pub begun : at.clock.begun front place ≡ true
-  pub at_once : has_plus line ≡ false → rest ≡ []
+  pub begins : BeginsAt at.script at.clock subject (suc (told_of subject at.before)) front rest
   pub holds : P front rest
 
 -- it goes down, or is armed
@@ -312,3 +316,8 @@ HasReason at (OfCall client n said) = SaidReason at client n said
 HasReason at (OfClean pass) = PassReason at pass
 HasReason at (OfRebuild server end) = MendReason at server.0 end
 HasReason at (OfEvent event answer) = EventReason at event answer
+
+-- each line has its reason at its place behind those before it
+abbrev pub ReasonsFrom : (List Outcome → Outcome → Place) → List Outcome → List Outcome → Type 0
+ReasonsFrom place_of before [] = Unit {0}
+ReasonsFrom place_of before (line ∷ lines) = HasReason (place_of before line) line × ReasonsFrom place_of (before ++ line ∷ []) lines

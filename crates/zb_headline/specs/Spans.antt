@@ -1,15 +1,15 @@
 -- The moments of a run, the span of a line, and what is seen there.
-use Rattle.std.specs.Prelude.{◌≡◌, ℕ, suc, ◌+◌, ◌-◌, ◌^◌, ◌≤◌, ◌<◌, min, true, false, List, [], ◌∷◌, ◌++◌, take, Some}
+use Rattle.std.specs.Prelude.{◌≡◌, ℕ, suc, ◌+◌, ◌-◌, ◌^◌, ◌≤◌, ◌<◌, min, true, List, [], ◌∷◌, ◌++◌, take}
 use Rattle.zb_types.specs.declared.lines.Line.{Line}
 use Rattle.zb_types.specs.declared.lines.Said.TheVariants.{Unfinished}
 use Rattle.zb_types.specs.declared.lines.Outcome.{Outcome}
 use Rattle.zb_types.specs.declared.lines.Outcome.TheVariants.{Call as OfCall}
 use Rattle.zb_outside.specs.Meaning.{Moment}
-use Rattle.zb_claims.specs.Points.{Subject, calls, subject_of, told_of, asked, has_plus}
+use Rattle.zb_claims.specs.Points.{calls, subject_of, told_of}
 use Rattle.zb_claims.specs.Fits.{Clock}
 use Rattle.zb_claims.specs.Text.{report_text}
 use Rattle.zb_headline.specs.Sights.{Sight}
-use Rattle.zb_headline.specs.Reasons.{Shown, Place}
+use Rattle.zb_headline.specs.Reasons.{Shown, Place, BeginsAt}
 
 -- a run of a script with its clock: the moments that it has been through, and what images say
 pub record Course : Type 1 where
@@ -23,20 +23,12 @@ pub record Stand (front : List Outcome) (m : Moment) : Type 0 where
   pub more : List ℕ
   pub printed : m.printed ≡ report_text front ++ more
 
--- the n-th line of the script with this subject was begun at `front`, and is waited for where it has no plus
-pub record BeginsAt (c : Course) (subject : Subject) (n : ℕ) (front rest : List Outcome) : Type 0 where
-  pub place : ℕ
-  pub line : Line
-  pub is : asked c.script subject n ≡ Some (place, line)
-  pub begun : c.clock.begun front place ≡ true
-  pub at_once : has_plus line ≡ false → rest ≡ []
-
 -- where the span of a line begins: with the begin of its script line, or of what follows the last; without a plus with
 -- the line before it
 abbrev pub SpanBegins : Course → List Outcome → Outcome → List Outcome → List Outcome → Type 0
 SpanBegins c before (OfCall client n (Unfinished cause)) front rest = c.clock.over front ≡ true
-SpanBegins c before (OfCall client n said) front rest = BeginsAt c (calls client) n front rest
-SpanBegins c before line front rest = BeginsAt c (subject_of line) (suc (told_of (subject_of line) before)) front rest
+SpanBegins c before (OfCall client n said) front rest = BeginsAt c.script c.clock (calls client) n front rest
+SpanBegins c before line front rest = BeginsAt c.script c.clock (subject_of line) (suc (told_of (subject_of line) before)) front rest
 
 -- a moment of the span of a line, which doesn't stand yet
 pub record IsInSpan (c : Course) (before : List Outcome) (line : Outcome) (m : Moment) : Type 0 where

@@ -1,5 +1,5 @@
 -- What no run may do, as closed examples.
-use Rattle.std.specs.Prelude.{◌≡◌, ◌⊎◌, ℕ, true, false, List, [], ◌∷◌, codes}
+use Rattle.std.specs.Prelude.{◌≡◌, ℕ, true, false, List, [], ◌∷◌, codes}
 use Rattle.zb_types.specs.declared.calls.Call.TheVariants.{Create}
 use Rattle.zb_types.specs.declared.calls.Reply.TheVariants.{Made}
 use Rattle.zb_types.specs.declared.history.Did.{Did}
@@ -11,7 +11,6 @@ use Rattle.zb_types.specs.declared.lines.Line.{Line}
 use Rattle.zb_types.specs.declared.lines.Line.TheVariants.{Job as JobLine, Event as EventLine}
 use Rattle.zb_types.specs.declared.lines.Mended.TheVariants.{Copied, Server as FailedServer}
 use Rattle.zb_types.specs.declared.lines.Told.TheVariants.{Arm, Up}
-use Rattle.zb_types.specs.declared.lines.Outcome.{Outcome}
 use Rattle.zb_types.specs.declared.lines.Outcome.TheVariants.{Rebuild as OfRebuild, Event as OfEvent}
 use Rattle.zb_claims.specs.Rows.{fid}
 use Rattle.zb_headline.specs.Reasons.{Shown, HasReason}

@@ -3,20 +3,14 @@ use Rattle.std.specs.Prelude.{◌≡◌, ◌≢◌, ℕ, ◌<◌, Bool, true, fa
 use Rattle.std.specs.Map.{lookup}
 use Rattle.zb_holding.specs.Carrying.{same_frag}
 use Rattle.zb_types.specs.declared.ids.FragId.{FragId}
-use Rattle.zb_holding.specs.Fragments.{Fragment, share_fragment, parity_fragment}
 use Rattle.zb_slots.specs.Slots.{Slot, Stored, free_slot, full_slot}
-use Rattle.zb_slots.specs.Holding.{named, held, IsBad}
+use Rattle.zb_slots.specs.Holding.{named, held, is_parity, IsBad}
 use Rattle.zb_index.specs.declared.holders.Holder.{Holder}
 use Rattle.zb_index.specs.declared.holders.Holders.{Holders}
 use Rattle.zb_index.specs.declared.holders.Holders.TheVariants.{One, Two, More}
 use Rattle.zb_index.specs.declared.spot.Spot.{Spot}
 use Rattle.zb_index.specs.Indexed.{spot_at}
 use Rattle.zb_index.specs.Twins.{IsOlder}
-
--- is it a parity?
-abbrev pub is_parity : Fragment → Bool
-is_parity (share_fragment bytes) = false
-is_parity (parity_fragment lengths bytes) = true
 
 -- the holder of what slot j holds
 abbrev pub holder_at : ℕ → Stored → Holder

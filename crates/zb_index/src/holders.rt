@@ -6,7 +6,8 @@ ghost use Rattle.zb_slots.specs.Shown.{Says};
 ghost use Rattle.zb_index.specs.Twins.{NoneIsBad};
 
 use crate::spot::Spot;
-use zb_slots::{Header, following};
+use zb_cell::following;
+use zb_slots::Header;
 use zb_types::FragId;
 
 /// Where a fragment stands, and whether it is a parity.

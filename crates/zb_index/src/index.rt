@@ -15,8 +15,8 @@ use crate::spot::{Renewed, Spot};
 use std::alloc::Global;
 use std::collections::BTreeMap;
 use std::marker::Model;
+use zb_cell::following;
 use zb_holding::names_above;
-use zb_slots::following;
 use zb_types::{FragId, FragList, Mem};
 
 /// Sets the spot of a name that is held.

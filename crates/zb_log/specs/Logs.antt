@@ -6,23 +6,41 @@ use Rattle.zb_types.specs.declared.ids.Piece.{Piece}
 use Rattle.zb_types.specs.declared.ids.Ptr.{Ptr}
 use Rattle.zb_stripe.specs.declared.flush.Part.{Part}
 use Rattle.zb_stripe.specs.declared.flush.Flush.{Flush}
+use Rattle.zb_stripe.specs.declared.flush.Fresh.{Fresh}
+use Rattle.zb_stripe.specs.declared.flush.FreshFlush.{FreshFlush}
+use Rattle.zb_stripe.specs.Writing.{parity_upto}
+use Rattle.zb_stripe.specs.Fresh.{IsFreshFlush}
 use Rattle.zb_log.specs.declared.places.Place.{Place}
 use Rattle.zb_log.specs.declared.placed.Placed.{Placed}
 use Rattle.zb_log.specs.Places.{place, range_of, IsWithin, InOrder}
 use Rattle.zb_log.specs.Sealing.{parts_of}
 use Rattle.zb_log.specs.Placing.{Laid, begun, pieces_of, with_meta, with_batch, last_stripe, AreBlocks}
 
--- the room of a stripe, the most bytes of a block, the place that the log goes on at, and the bytes of its stripe
+-- the servers, the bytes of a fragment, the room of a stripe, the most bytes of a block, the place that the log goes on
+-- at, and the parity of its stripe up to there
 pub record SeenLog : Type 0 where
   pub log : LogId
+  pub servers : ℕ
+  pub fragment : ℕ
   pub room : ℕ
   pub block : ℕ
   pub next : Place
-  pub bytes : List ℕ
+  pub parity : List ℕ
+
+-- these may be the bytes that the log gave of its stripe: they end where it goes on, and have its parity
+pub record AreGiven (seen : SeenLog) (given : List ℕ) : Type 0 where
+  pub long : length given ≡ seen.next.offset
+  pub parity : seen.parity ≡ parity_upto seen.servers seen.fragment given
+
+-- whichever bytes the log gave of its stripe
+abbrev pub ForGiven : SeenLog → (List ℕ → Type 0) → Type 0
+ForGiven seen P = (given : List ℕ) → AreGiven seen given → P given
 
 -- the log goes on behind the bytes of its stripe, within a stripe into which each block fits
 pub record IsSound (seen : SeenLog) : Type 0 where
-  pub given : length seen.bytes ≡ seen.next.offset
+  pub given : List ℕ
+  pub are : AreGiven seen given
+  pub sizes : seen.room ≡ (seen.servers - 1) * seen.fragment
   pub within : seen.next.offset ≤ seen.room
   pub fits : seen.block ≤ seen.room
   pub some : 0 < seen.room
@@ -51,12 +69,17 @@ pub record LiesInFew (seen : SeenLog) (n : ℕ) (placed : Placed) : Type 0 where
   pub stripes : (placed.next.stripe - seen.next.stripe - 1) * (seen.room - seen.block) ≤ n
   pub pieces : length placed.pieces ≤ placed.next.stripe - seen.next.stripe + 1
 
--- the parts of a batch that was placed next in the log, with its bytes
-pub record IsSealed (seen : SeenLog) (placed : Placed) (flush : Flush) : Type 0 where
+-- the flush of a batch that was placed next in the log, with these bytes, behind those given of its stripe
+abbrev pub flush_of : SeenLog → List ℕ → Placed → List ℕ → Flush
+flush_of seen given placed new =
+    record { log = seen.log; parts = parts_of seen.next.stripe given placed.pieces new }
+
+-- what is new of the flush of a batch that was placed next in the log, whichever bytes were given
+pub record IsSealed (seen : SeenLog) (placed : Placed) (fresh : FreshFlush) : Type 0 where
   pub meta : List ℕ
   pub blocks : List (List ℕ)
   pub is_placed : IsPlaced seen (length meta) (map length blocks) placed
-  pub parts : flush.parts ≡ parts_of seen.next.stripe seen.bytes placed.pieces (meta ++ concat blocks)
+  pub parts : ForGiven seen (λ given. IsFreshFlush seen.servers seen.fragment (flush_of seen given placed (meta ++ concat blocks)) fresh)
 
 -- these ranges lie behind the place that the log went on at, and before the one that it goes on at, each behind the
 -- one before and within a stripe
@@ -70,7 +93,7 @@ pub record IsPtrIn (log : LogId) (pieces : List Piece) (ptr : Ptr) (n : ℕ) : T
   pub in_piece : Any (λ piece. IsWithin piece (range_of ptr)) pieces
 
 -- the last of some parts
-abbrev pub last_of : List Part → Option Part
+abbrev pub last_of : {A : Type 0} → List A → Option A
 last_of parts = slice_get parts (length parts - 1)
 
 -- the bytes of a part, or those from before where there is none
@@ -78,15 +101,20 @@ abbrev pub bytes_with : List ℕ → Option Part → List ℕ
 bytes_with given None = given
 bytes_with given (Some part) = part.bytes
 
+-- the parity with what is new of a stripe, or that from before where there is none
+abbrev pub parity_with : List ℕ → Option Fresh → List ℕ
+parity_with parity None = parity
+parity_with parity (Some fresh) = fresh.parity
+
 -- where a part ends, or a place where there is none
 abbrev pub end_with : Place → Option Part → Place
 end_with next None = next
 end_with next (Some part) = place part.stripe (length part.bytes)
 
 -- the log went on behind a batch: the stripe of its last part is at work
-abbrev pub gone_on : SeenLog → Place → List Part → SeenLog
-gone_on seen next parts = record seen { next = next; bytes = bytes_with seen.bytes (last_of parts) }
+abbrev pub gone_on : SeenLog → Place → List Fresh → SeenLog
+gone_on seen next parts = record seen { next = next; parity = parity_with seen.parity (last_of parts) }
 
 -- the log goes on at the start of the stripe behind this one
 abbrev pub renewed : SeenLog → ℕ → SeenLog
-renewed seen last = record seen { next = place (last + 1) 0; bytes = [] }
+renewed seen last = record seen { next = place (last + 1) 0; parity = [] }

@@ -1,10 +1,11 @@
 -- The bytes of a placed batch, stripe by stripe.
-use Rattle.std.specs.Prelude.{◌≡◌, ℕ, ◌+◌, ◌≤◌, ◌==◌, List, [], ◌∷◌, ◌++◌, length, take, drop, if◌then◌else◌, Any}
-use Rattle.std.specs.List.{AllZip}
+use Rattle.std.specs.Prelude.{◌≡◌, ℕ, ◌+◌, ◌-◌, ◌*◌, ◌≤◌, ◌==◌, List, [], ◌∷◌, ◌++◌, length, take, drop, if◌then◌else◌, Any}
+use Rattle.std.specs.List.{AllZip, AllByRecursion}
 use Rattle.zb_types.specs.declared.ids.Piece.{Piece}
 use Rattle.zb_types.specs.declared.ids.Ptr.{Ptr}
 use Rattle.zb_stripe.specs.declared.flush.Part.{Part}
-use Rattle.zb_stripe.specs.Writing.{IsWritable}
+use Rattle.zb_stripe.specs.declared.flush.Fresh.{Fresh}
+use Rattle.zb_stripe.specs.Writing.{IsWritable, parity_upto}
 use Rattle.zb_log.specs.Placing.{last_stripe}
 
 -- all bytes of a piece's stripe: those before the piece, and the new ones
@@ -28,6 +29,13 @@ HaveBytes at_work given [] new = Unit {0}
 HaveBytes at_work given (piece ∷ pieces) new =
     (piece.len ≤ length new) × (length (given_of at_work given piece.stripe) ≡ piece.offset)
     × HaveBytes at_work given pieces (drop piece.len new)
+
+-- pieces with these bytes go behind bytes of the stripe at work that have this parity, each within its stripe
+pub record GoBehind (n f at_work : ℕ) (parity : List ℕ) (pieces : List Piece) (new : List ℕ) : Type 0 where
+  pub given : List ℕ
+  pub sums : parity ≡ parity_upto n f given
+  pub have : HaveBytes at_work given pieces new
+  pub room : AllByRecursion (λ piece. piece.offset + piece.len ≤ (n - 1) * f) pieces
 
 -- a part has the stripe of its piece, its new bytes begin where the piece does, and it ends where the piece does
 pub record IsPartOf (piece : Piece) (part : Part) : Type 0 where
@@ -57,3 +65,8 @@ pub record GoesNext (room at_work : ℕ) (given : List ℕ) (part : Part) : Type
   pub front : take part.begin part.bytes ≡ given_of at_work given part.stripe
   pub above : at_work ≤ part.stripe
   pub lasting : part.stripe ≤ last_stripe
+
+-- a part of the stripe at work or of a later one that a log may have
+pub record LiesAhead (at_work : ℕ) (fresh : Fresh) : Type 0 where
+  pub above : at_work ≤ fresh.stripe
+  pub lasting : fresh.stripe ≤ last_stripe

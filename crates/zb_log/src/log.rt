@@ -1,75 +1,85 @@
-ghost use Rattle.std.specs.Prelude.{◌≡◌, ◌+◌, ◌-◌, ◌*◌, ◌<◌, ◌≤◌, ◌++◌, ◌↔◌, IfOk, IsErrOf, All, length, map, []};
+ghost use Rattle.std.specs.Prelude.{◌≡◌, ℕ, List, ◌+◌, ◌-◌, ◌*◌, ◌<◌, ◌≤◌, ◌++◌, ◌↔◌, IfOk, OnOk, IsErrOf, All, length, map, []};
 ghost use Rattle.std.specs.List.{AllZip, concat, sum};
+ghost use Rattle.zb_stripe.specs.declared.flush.Flush.{Flush};
 ghost use Rattle.zb_stripe.specs.Writing.{StripesRise};
+ghost use Rattle.zb_stripe.specs.Fresh.{IsFreshFlush, HasRoom};
 ghost use Rattle.zb_log.specs.declared.placed.LogFault.TheVariants.{Worn};
 ghost use Rattle.zb_log.specs.Places.{place, range_of, IsUpTo, BeginsNext, InOrder};
 ghost use Rattle.zb_log.specs.Placing.{last_stripe, AreBlocks, OneAStripe};
-ghost use Rattle.zb_log.specs.Sealing.{parts_of, read_at, IsPartOf, StandEach, GoesNext};
-ghost use Rattle.zb_log.specs.Logs.{SeenLog, IsSound, IsPlaced, LiesInFew, IsSealed, IsPtrIn, Gives, laid_next, behind_meta, last_of, end_with, gone_on, renewed};
+ghost use Rattle.zb_log.specs.Sealing.{read_at, IsPartOf, StandEach, GoesNext, LiesAhead};
+ghost use Rattle.zb_log.specs.Logs.{SeenLog, AreGiven, ForGiven, IsSound, IsPlaced, LiesInFew, IsSealed, IsPtrIn, Gives, flush_of, laid_next, behind_meta, last_of, bytes_with, end_with, gone_on, renewed};
 
 use crate::laying::lay;
 use crate::placed::{LogFault, Placed};
 use crate::places::{Place, goes_above};
-use crate::sealing::{joined, last_part, parts};
+use crate::sealing::{fresh_parts, joined, last_part};
 use std::alloc::Global;
 use std::marker::Model;
-use zb_stripe::{Flush, PartList};
+use zb_stripe::{FreshFlush, FreshList};
 use zb_types::{ByteList, Geometry, LogId, Mem};
 
-/// The log of a client or of the cleaner. Contracts see the room of a stripe, the most bytes of a block, the place
-/// that the log goes on at, and the bytes of its stripe up to there. A batch is placed and sealed before the log goes
-/// on behind it: until then the log is as it was, so that a batch is given up where memory runs out.
+/// The log of a client or of the cleaner. Contracts see the sizes, the place that the log goes on at, and the parity of
+/// its stripe up to there: what was given of the stripe isn't kept. A batch is placed and sealed before the log goes on
+/// behind it: until then the log is as it was, so that a batch is given up where memory runs out.
 #[derive(Drop)]
 pub struct LogBuf {
     log: LogId,
-    room: u32,
-    block: u32,
+    geo: Geometry,
     next: Place,
-    bytes: Vec<u8>,
+    parity: Vec<u8>,
 }
 
 impl Model for LogBuf {
+    ghost use Rattle.std.specs.Prelude.{◌-◌, ◌*◌};
     ghost use Rattle.zb_log.specs.Logs.{SeenLog, IsSound};
 
     ghost Value = { SeenLog };
 
     ghost view = { λ a. record {
       log = a.log;
-      room = a.room;
-      block = a.block;
+      servers = a.geo.servers;
+      fragment = a.geo.fragment;
+      room = (a.geo.servers - 1) * a.geo.fragment;
+      block = a.geo.block;
       next = a.next;
-      bytes = a.bytes.items;
+      parity = a.parity.items;
     } };
 
     ghost invariant = { λ a. IsSound (record {
       log = a.log;
-      room = a.room;
-      block = a.block;
+      servers = a.geo.servers;
+      fragment = a.geo.fragment;
+      room = (a.geo.servers - 1) * a.geo.fragment;
+      block = a.geo.block;
       next = a.next;
-      bytes = a.bytes.items;
+      parity = a.parity.items;
     }) };
 }
 
 impl LogBuf {
     /// A log that begins at stripe 0.
     pub fn new(alloc: Global, geo: &Geometry, log: LogId) -> Mem<LogBuf>
-        ensures { IfOk result (λ made. made ≡ record {
+        ensures new { IfOk result (λ made. made ≡ record {
           log = log;
+          servers = geo.now.servers;
+          fragment = geo.now.fragment;
           room = (geo.now.servers - 1) * geo.now.fragment;
           block = geo.now.block;
           next = place 0 0;
-          bytes = [];
+          parity = [];
         }) }
+
+        // Nothing was given.
+        ensures given { IfOk result (λ made. AreGiven made []) }
     {
         Ok(LogBuf {
             log,
-            room: (geo.servers - 1) * geo.fragment,
-            block: geo.block,
+            geo: *geo,
             next: Place {
                 stripe: 0,
                 offset: 0,
             },
-            bytes: Vec::new(alloc),
+            parity: Vec::new(alloc),
         })
     }
 
@@ -98,79 +108,101 @@ impl LogBuf {
         ensures ptrs { IfOk result (λ placed. AllZip (IsPtrIn self.now.log placed.pieces) placed.ptrs blocks.now) }
         ensures worn { IsErrOf result Worn ↔ (last_stripe < (laid_next self.now meta blocks.now).next.stripe) }
     {
-        if goes_above(self.room, self.next, meta, blocks) {
+        let room = (self.geo.servers - 1) * self.geo.fragment;
+        if goes_above(room, self.next, meta, blocks) {
             return Err(LogFault::Worn);
         }
-        Ok(lay(alloc, self.log, self.room, self.next, meta, blocks)?)
+        Ok(lay(alloc, self.log, room, self.next, meta, blocks)?)
     }
 
-    /// Gives the bytes of a batch that was placed next: for each stripe of it all bytes so far, and where the new ones
-    /// begin.
+    /// Gives what is new of the flush of a batch that was placed next: for each stripe of it the new bytes, where they
+    /// begin, and the parity of all bytes of the stripe so far. It takes memory for the batch, and for one parity a stripe.
     pub fn seal(
         &self,
         alloc: Global,
         placed: &Placed,
         meta: &ByteList,
         blocks: &[ByteList],
-    ) -> Mem<Flush>
+    ) -> Mem<FreshFlush>
         requires { IsPlaced self.now (length meta.now) (map length blocks.now) placed.now }
 
         // The log may go on behind it.
         ensures sealed { IfOk result (IsSealed self.now placed.now) }
-        ensures log { IfOk result (λ flush. flush.log ≡ self.now.log) }
-        ensures parts { IfOk result
-            (λ flush. flush.parts
-            ≡ parts_of self.now.next.stripe self.now.bytes placed.now.pieces (meta.now ++ concat blocks.now)) }
+        ensures log { IfOk result (λ fresh. fresh.log ≡ self.now.log) }
+
+        // It is new of the flush that has the meta part and the blocks behind the bytes that were given.
+        ensures fresh { IfOk result (λ fresh. ForGiven self.now (λ given. IsFreshFlush self.now.servers self.now.fragment
+            (flush_of self.now given placed.now (meta.now ++ concat blocks.now)) fresh)) }
+
+        // A write plan may be made of it, and its stripes are the one at work and later ones.
+        ensures room { IfOk result (λ fresh. All (HasRoom self.now.room) fresh.parts) }
+        ensures ahead { IfOk result (λ fresh. All (LiesAhead self.now.next.stripe) fresh.parts) }
 
         // Read at the pieces, one behind the other, the parts give the meta part and the blocks.
-        ensures whole { IfOk result
-            (λ flush. read_at placed.now.pieces flush.parts ≡ meta.now ++ concat blocks.now) }
+        ensures whole { OnOk result (ForGiven self.now (λ given.
+            let flush = flush_of self.now given placed.now (meta.now ++ concat blocks.now)
+            in read_at placed.now.pieces flush.parts ≡ meta.now ++ concat blocks.now)) }
 
         // There is a part for each piece, which ends where the piece does.
-        ensures pieces { IfOk result (λ flush. AllZip IsPartOf placed.now.pieces flush.parts) }
+        ensures pieces { OnOk result (ForGiven self.now (λ given.
+            let flush = flush_of self.now given placed.now (meta.now ++ concat blocks.now)
+            in AllZip IsPartOf placed.now.pieces flush.parts)) }
 
         // Each block stands at its address.
-        ensures blocks { IfOk result (λ flush. StandEach flush.parts placed.now.ptrs blocks.now) }
+        ensures blocks { OnOk result (ForGiven self.now (λ given.
+            let flush = flush_of self.now given placed.now (meta.now ++ concat blocks.now)
+            in StandEach flush.parts placed.now.ptrs blocks.now)) }
 
-        // Each part has new bytes behind those that the log has of its stripe.
-        ensures next { IfOk result
-            (λ flush. All (GoesNext self.now.room self.now.next.stripe self.now.bytes) flush.parts) }
+        // Each part has new bytes behind those that were given of its stripe.
+        ensures next { OnOk result (ForGiven self.now (λ given.
+            let flush = flush_of self.now given placed.now (meta.now ++ concat blocks.now)
+            in All (GoesNext self.now.room self.now.next.stripe given) flush.parts)) }
 
         // Each part is of a later stripe than the one before.
-        ensures rise { IfOk result (λ flush. StripesRise flush.parts) }
+        ensures rise { OnOk result (ForGiven self.now (λ given.
+            let flush = flush_of self.now given placed.now (meta.now ++ concat blocks.now)
+            in StripesRise flush.parts)) }
 
         // The log goes on where the last part ends.
-        ensures end { IfOk result
-            (λ flush. end_with self.now.next (last_of flush.parts) ≡ placed.now.next) }
+        ensures end { OnOk result (ForGiven self.now (λ given.
+            let flush = flush_of self.now given placed.now (meta.now ++ concat blocks.now)
+            in end_with self.now.next (last_of flush.parts) ≡ placed.now.next)) }
     {
         let new = joined(alloc, meta, blocks)?;
-        let parts = parts(
+        let parts = fresh_parts(
             alloc,
+            &self.geo,
             self.next.stripe,
-            &self.bytes,
+            &self.parity,
             placed.pieces.slice(),
             &new,
         )?;
-        Ok(Flush {
+        Ok(FreshFlush {
             log: self.log,
-            parts: PartList::of(parts),
+            parts: FreshList::of(parts),
         })
     }
 
     /// Goes on behind a batch that was placed next and sealed: its addresses are given. It is for a flush that reached
     /// its end, since what is given can't be given back.
-    pub fn go_on(&mut self, placed: &Placed, flush: Flush)
-        requires { IsSealed self.old placed.now flush }
-        ensures new { self.new ≡ gone_on self.old placed.now.next flush.parts }
+    pub fn go_on(&mut self, placed: &Placed, fresh: FreshFlush)
+        requires { IsSealed self.old placed.now fresh }
+        ensures new { self.new ≡ gone_on self.old placed.now.next fresh.parts }
+
+        // The bytes of the last part of the flush are those that are given of its stripe by now.
+        ensures given { (given : List ℕ) (flush : Flush) → AreGiven self.old given
+            → IsFreshFlush self.old.servers self.old.fragment flush fresh
+            → end_with self.old.next (last_of flush.parts) ≡ placed.now.next
+            → AreGiven self.new (bytes_with given (last_of flush.parts)) }
 
         // No address is given twice.
         ensures gives { Gives self.old placed.now.pieces self.new }
     {
-        let Some(last) = last_part(flush) else {
+        let Some(last) = last_part(fresh) else {
             self.next = placed.next;
             return;
         };
-        self.bytes = last.bytes.into_items();
+        self.parity = last.parity.into_items();
         self.next = placed.next;
     }
 
@@ -182,12 +214,15 @@ impl LogBuf {
 
         // No address that was given lies behind.
         requires behind { IsUpTo self.old.next (place (last + 1) 0) }
-        ensures { self.new ≡ renewed self.old last }
+        ensures new { self.new ≡ renewed self.old last }
+
+        // Nothing was given of that stripe.
+        ensures given { AreGiven self.new [] }
     {
         self.next = Place {
             stripe: last + 1,
             offset: 0,
         };
-        self.bytes.clear();
+        self.parity.clear();
     }
 }

@@ -4,10 +4,11 @@ ghost use Rattle.zb_log.specs.Placing.{last_stripe};
 use std::alloc::Global;
 use std::test::Fail;
 use zb_log::{LogBuf, LogFault, Placed, no_address_twice};
-use zb_types::{ByteList, Geometry, LogId, Piece, Ptr};
+use zb_parity::parity_of;
+use zb_types::{ByteList, Geometry, LogId, Mem, Piece, Ptr};
 
-/// The stripe of a part, where its new bytes begin, how many bytes it has, and the first of them and of the new ones.
-type Told = (u64, u32, usize, Option<u8>, Option<u8>);
+/// The stripe of a part, where its new bytes begin, how many they are, the first of them, and how long its parity is.
+type Told = (u64, u32, usize, Option<u8>, usize);
 
 /// Places and seals a batch, so many bytes 7 as its meta part and a block of so many bytes 9, and lets the log go on
 /// behind it.
@@ -26,20 +27,18 @@ fn commit(
     let meta = ByteList::of(vec![in alloc; 7u8; meta as usize]?);
     let block = ByteList::of(vec![in alloc; 9u8; block as usize]?);
     let placed = log.place(alloc, meta.len() as u32, &[block.len() as u32])?;
-    let flush = log.seal(alloc, &placed, &meta, &[block])?;
+    let fresh = log.seal(alloc, &placed, &meta, &[block])?;
     let mut told = Vec::new(alloc);
-    for part in flush.parts.slice() {
-        let bytes = &part.bytes;
-        let new = bytes.get(part.begin as usize).copied();
+    for part in fresh.parts.slice() {
         told.push((
             part.stripe,
             part.begin,
-            bytes.len(),
-            bytes.get(0).copied(),
-            new,
+            part.bytes.len(),
+            part.bytes.get(0).copied(),
+            part.parity.len(),
         ))?;
     }
-    log.go_on(&placed, flush);
+    log.go_on(&placed, fresh);
     Ok((placed, told))
 }
 
@@ -68,8 +67,8 @@ fn a_write_follows_a_create(rt: HostRuntime) -> Result<(), Fail> {
     let created = log.place(alloc, 45, &[])?;
     assert_eq!(rt; created.pieces.slice(), [piece(0, 0, 45)].as_slice());
     let meta = ByteList::of(vec![in alloc; 7u8; 45]?);
-    let flush = log.seal(alloc, &created, &meta, &[])?;
-    log.go_on(&created, flush);
+    let fresh = log.seal(alloc, &created, &meta, &[])?;
+    log.go_on(&created, fresh);
     let written = log.place(alloc, 132, &[5])?;
     assert_eq!(rt; written.pieces.slice(), [piece(0, 45, 137)].as_slice());
     assert_eq!(rt; written.ptrs.slice(), [ptr(0, 177, 5)].as_slice());
@@ -88,8 +87,8 @@ fn a_log_goes_on_over_stripes(rt: HostRuntime) -> Result<(), Fail> {
         assert_eq!(rt; first.pieces.slice(), pieces.as_slice());
         assert_eq!(rt; first.ptrs.slice(), [ptr(1, 0, 64)].as_slice());
         let parts = [
-            (0, 0, room as usize - 32, Some(7), Some(7)),
-            (1, 0, 64, Some(9), Some(9)),
+            (0, 0, room as usize - 32, Some(7), 256),
+            (1, 0, 64, Some(9), 64),
         ];
         assert_eq!(rt; told.as_slice(), parts.as_slice());
 
@@ -98,8 +97,8 @@ fn a_log_goes_on_over_stripes(rt: HostRuntime) -> Result<(), Fail> {
         assert_eq!(rt; second.pieces.slice(), pieces.as_slice());
         assert_eq!(rt; second.ptrs.slice(), [ptr(2, 64, 64)].as_slice());
         let parts = [
-            (1, 64, room as usize, Some(9), Some(7)),
-            (2, 0, 128, Some(7), Some(7)),
+            (1, 64, room as usize - 64, Some(7), 256),
+            (2, 0, 128, Some(7), 128),
         ];
         assert_eq!(rt; told.as_slice(), parts.as_slice());
 
@@ -123,5 +122,54 @@ fn the_last_stripe_is_filled(rt: HostRuntime) -> Result<(), Fail> {
     );
     let fault = log.place(rt.alloc(), 1, &[]).err();
     assert_eq!(rt; fault, Some(LogFault::Worn));
+    Ok(())
+}
+
+/// Commits a batch of so many bytes more, which differ, and gives the parity of its stripe.
+fn grow(
+    log: &mut LogBuf,
+    alloc: Global,
+    all: &mut Vec<u8>,
+    len: u32,
+) -> Result<Option<ByteList>, LogFault> {
+    let mut new = Vec::new(alloc);
+    for i in 0..len {
+        new.push((i * 37 % 251) as u8)?;
+    }
+    all.extend_from_slice(&new)?;
+    let meta = ByteList::of(new);
+    let placed = log.place(alloc, len, &[])?;
+    let fresh = log.seal(alloc, &placed, &meta, &[])?;
+    let parity = match fresh.parts.get(0) {
+        Some(part) => Some(part.parity.copy(alloc)?),
+        None => None,
+    };
+    log.go_on(&placed, fresh);
+    Ok(parity)
+}
+
+/// The parity of a stripe's bytes in fragments of 256 bytes, made anew.
+fn parity_anew(alloc: Global, all: &[u8]) -> Mem<ByteList> {
+    let mut shares = Vec::new(alloc);
+    for share in all.chunks(256) {
+        shares.push(ByteList::from_slice(alloc, share)?)?;
+    }
+    parity_of(alloc, &shares)
+}
+
+#[test]
+fn a_parity_grows_as_it_is_made_anew(rt: HostRuntime) -> Result<(), Fail> {
+    let geo = Geometry::new(4, 1, 256, 64, 8)?;
+    let mut log = LogBuf::new(rt.alloc(), &geo, LogId(1))?;
+    let mut all = Vec::new(rt.alloc());
+    for len in [200, 100, 300] {
+        match grow(&mut log, rt.alloc(), &mut all, len)? {
+            Some(parity) => {
+                let anew = parity_anew(rt.alloc(), &all)?;
+                assert_eq!(rt; parity.slice(), anew.slice());
+            }
+            None => assert!(rt; false, "a batch has a part"),
+        }
+    }
     Ok(())
 }

@@ -1,4 +1,5 @@
 pub mod Blown
+pub mod Causes
 pub mod Keeping
 pub mod Runs
 pub mod Time

@@ -6,7 +6,7 @@ use Rattle.std.proofs.lemmas.Result.{on_ok_weaker}
 use Rattle.zb_outside.specs.Meaning.{Moment, Standing, IsMoment, Meaning}
 use Rattle.zb_outside.specs.Platters.{WriteTold, SyncTold, WriteSyncedTold}
 use Rattle.zb_outside.specs.Ranges.{Torn, Written, SameBeside, torn_same}
-use Rattle.zb_outside.specs.Runs.{Ticks, Spares, AtPlatter, Run, IsSettled}
+use Rattle.zb_outside.specs.Runs.{Ticks, Spares, AtPlatter, Run, IsSettled, SparesOthers}
 use Rattle.zb_outside.proofs.Time.{still, then, weaker, spares_same, forgets_none, remembers_then}
 
 pub spares_then : {p : ℕ} {a b c : Standing} → Spares p a b → Spares p b c → Spares p a c
@@ -76,6 +76,16 @@ weaker_run {p} {Q} {R} {a} {b} run f = record {
   spares = run.spares;
   here = λ i h. f i (run.here i h);
 }
+
+-- what any run leaves of the other platters
+pub run_spares : {p : ℕ} {Q : List ℕ → Type 0} {a b : Meaning} → Run p Q a b → SparesOthers p a b
+run_spares run = weaker_run run (λ i h. tt)
+
+pub others_same : (p : ℕ) (w : Meaning) → SparesOthers p w w
+others_same p w = started p (λ _. Unit {0}) w (λ c h. tt)
+
+pub others_then : {p : ℕ} {a b c : Meaning} → SparesOthers p a b → SparesOthers p b c → SparesOthers p a c
+others_then first second = then_run first second (λ i h. tt)
 
 -- a write from a settled platter
 pub put_write : {T E : Type 0} {p at : ℕ} {bytes : List ℕ} {r : Result T E} {a b : Meaning} → IsSettled p a.now → WriteTold p at bytes r a b → Run p (Torn at (length bytes) (a.now.seen p)) a b

@@ -1,10 +1,10 @@
 -- What callers see of fuses, and what calls may do to them.
-use Rattle.std.specs.Prelude.{◌≡◌, ◌⊎◌, ◌+◌, ◌-◌, ◌^◌, ◌≤◌, ◌<◌, min, ℕ, Bool, IsTrue, List, slice_index}
+use Rattle.std.specs.Prelude.{◌≡◌, ◌⊎◌, ◌+◌, ◌-◌, ◌^◌, ◌≤◌, ◌<◌, ◌==◌, if◌then◌else◌, min, ℕ, Bool, true, IsTrue, List, slice_index}
 use Rattle.std.proofs.Common.{refl, ◌∙◌, inl, inr, ⊎_elim, arith}
 use Rattle.std.proofs.lemmas.Bool.{cases_lt}
 use Rattle.zb_outside.specs.Meaning.{Meaning}
 use Rattle.zb_outside.specs.Ranges.{Written}
-use Rattle.zb_outside.specs.Counts.{Counts, HasFault, HasWritten, at_last}
+use Rattle.zb_outside.specs.Counts.{Counts, HasFault, HasWritten, Touches, at_last}
 use Rattle.zb_outside.specs.declared.fused.Fused.{Fused}
 
 -- the device behind the fuses
@@ -33,15 +33,24 @@ pub record FuseFollows {B : Type 0} (counts : B → Counts) (leads : B → B →
   pub burns : (p : ℕ) → 1 ≤ left_of old p → (left_of old p + (counts old.inner).writes p ≤ left_of new p + (counts new.inner).writes p) ⊎ (2 ^ 64 - 1 ≤ (counts new.inner).writes p)
   pub blown : (p : ℕ) → 1 < left_of new p → raised_of new p ≡ raised_of old p
 
+-- 1 where the fuse of platter p has blown and the calls that it failed are counted to the last value, and else 0
+abbrev pub full_of : {B : Type 0} → Fused B → ℕ → ℕ
+full_of f p = if left_of f p == 1 then at_last (raised_of f p) else 0
+
 -- what is counted of the device and of its fuses: calls that failed at either, writes that the device was asked for or that
 -- were held back, up to the last value of a u64, and the streams of the device
 abbrev pub all_counts : {B : Type 0} → (B → Counts) → Fused B → Counts
 all_counts counts f = record {
   faults = λ p. (counts f.inner).faults p + raised_of f p;
-  full = λ p. (counts f.inner).full p + at_last (raised_of f p);
+  full = λ p. (counts f.inner).full p + full_of f p;
   writes = λ p. min ((counts f.inner).writes p + held_of f p) (2 ^ 64 - 1);
   streams = (counts f.inner).streams;
 }
+
+-- where a run of calls tells that platter p failed behind its fuse, the device failed there, or the fuse has blown
+abbrev pub FailsByDeviceOrFuse : {B : Type 0} → (B → Counts) → (B → B → Type 0) → Type 0
+FailsByDeviceOrFuse {B} counts leads = (p most : ℕ) (old new : Fused B) → Touches (all_counts counts) (FuseFollows counts leads) p most true old new
+    → HasFault p (counts old.inner) (counts new.inner) ⊎ (left_of new p ≡ 1)
 
 -- the device was asked to write these bytes, and wrote them where it didn't fail itself
 pub record PassesWrite {B : Type 0} (tells : Bool) (p at : ℕ) (bytes : List ℕ) (meaning : B → Meaning) (counts : B → Counts) (old new : B) : Type 0 where

@@ -35,6 +35,11 @@ pub record Run (p : ℕ) (Q : List ℕ → Type 0) (old new : Meaning) : Type 0 
   pub spares : Spares p old.now new.now
   pub here : (image : List ℕ) → new.now.may_leave p image → Q image
 
+-- calls on platter p lead from old to new, whatever becomes of its image: at each moment on the way and at the end all else is
+-- as before
+abbrev pub SparesOthers : ℕ → Meaning → Meaning → Type 0
+SparesOthers p old new = Run p (λ _. Unit {0}) old new
+
 -- on the way p has an image that it may have at the end
 abbrev pub Ticks : ℕ → Meaning → Meaning → Type 0
 Ticks p old new = Run p (new.now.may_leave p) old new

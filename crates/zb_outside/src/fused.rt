@@ -1,7 +1,7 @@
 ghost use Rattle.std.specs.Prelude.{◌≡◌, ◌≢◌, ◌≤◌, ◌+◌, ◌-◌, ◌^◌, min, max, ℕ, false, IsTrue, IsErr, is_err, length};
 ghost use Rattle.zb_outside.specs.Platters.{ReadTold, WriteTold, SyncTold, RestartTold, BlankTold};
 ghost use Rattle.zb_outside.specs.Counts.{Touches, HasWritten};
-ghost use Rattle.zb_outside.specs.Fuse.{FuseFollows, PassesWrite, inner_of, left_of, raised_of, held_of, all_counts};
+ghost use Rattle.zb_outside.specs.Fuse.{FailsByDeviceOrFuse, FuseFollows, PassesWrite, inner_of, left_of, raised_of, held_of, all_counts};
 
 use crate::bay::Bay;
 use crate::counts::raise;
@@ -62,6 +62,11 @@ impl<B: Bay> Fused<B> {
     {
         self.left[platter] = 0;
     }
+
+    /// Where a platter is told to have failed behind its fuse, the device failed, or the fuse has blown.
+    pub fn fails_by_device_or_fuse()
+        ensures { FailsByDeviceOrFuse B.counts B.follows }
+    {}
 
     /// The bay, with its fuses given up.
     pub fn inner(self) -> B

@@ -29,6 +29,17 @@ pub fn xor_into(into: &mut [u8], from: &[u8])
     }
 }
 
+/// Puts bytes into those from `at` on, by exclusive or.
+pub fn xor_behind(into: &mut [u8], at: usize, from: &[u8])
+    requires { at + length from.now ≤ length into.old }
+    ensures front { (y : ℕ) → y < at → slice_index into.new y ≡ slice_index into.old y }
+    ensures behind { (y : ℕ) → slice_index into.new (at + y)
+        ≡ bit_xor (slice_index into.old (at + y)) (slice_index from.now y) }
+{
+    let (_, behind) = into.split_at_mut(at);
+    xor_into(behind, from);
+}
+
 /// Puts in each of these shares, as far as they reach.
 fn xor_shares(into: &mut [u8], shares: &[ByteList])
     ensures { (y : ℕ) → y < length into.old

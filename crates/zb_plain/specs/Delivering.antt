@@ -1,5 +1,5 @@
 -- What a delivery leaves.
-use Rattle.std.specs.Prelude.{◌≡◌, ℕ, ◌+◌, ◌*◌, ◌≤◌, true, List, length, take, None, unwrap_or}
+use Rattle.std.specs.Prelude.{◌≡◌, ℕ, ◌+◌, ◌*◌, ◌≤◌, true, List, length, take, None, unwrap_or, All}
 use Rattle.zb_types.specs.declared.ids.ServerId.{ServerId}
 use Rattle.zb_types.specs.declared.requests.Request.{Request}
 use Rattle.zb_holding.specs.Holding.{Maps}
@@ -10,7 +10,12 @@ use Rattle.zb_stripe.specs.declared.read.Got.{Got}
 use Rattle.zb_stripe.specs.declared.read.Got.TheVariants as more
 use Rattle.zb_stripe.specs.Reading.{Reading, asked, fed, answered, is_more}
 use Rattle.zb_stripe_laws.specs.ReadAtWork.{AnswersFrom, AllAnswer}
-use Rattle.zb_plain.specs.Standing.{Entries, entries_of}
+use Rattle.zb_types.specs.declared.geometry.Geometry.{Geometry}
+use Rattle.zb_stripe.specs.declared.flush.Flush.{Flush}
+use Rattle.zb_stripe.specs.declared.flush.FreshFlush.{FreshFlush}
+use Rattle.zb_stripe.specs.Fresh.{IsFreshFlush}
+use Rattle.zb_stripe_laws.specs.PartAtWork.{MayBegin, StripesDiffer}
+use Rattle.zb_plain.specs.Standing.{Entries, entries_of, seen_at}
 use Rattle.zb_plain.specs.Answering.{answer_of, MayAsk}
 
 -- the first of some requests were carried out, and no others
@@ -36,3 +41,11 @@ pub record ComesTo (maps : Maps) (first : Reading) (got : Got) : Type 0 where
   pub all : AllAnswer maps None None first answers
   pub end : unwrap_or (answered first answers) more.More ≡ got
   pub enough : is_more got ≡ true → (first.ptr.len + 1) * (first.servers + 2) ≤ length answers
+
+-- what is new of a flush whose stripes differ, and each of whose parts goes on behind what these servers have of its
+-- stripe, or begins it
+pub record MayWrite (geo : Geometry) (servers : List Entries) (fresh : FreshFlush) : Type 0 where
+  pub flush : Flush
+  pub is : IsFreshFlush geo.servers geo.fragment flush fresh
+  pub differ : StripesDiffer flush.parts
+  pub begin : All (MayBegin (seen_at geo servers) flush.log) flush.parts

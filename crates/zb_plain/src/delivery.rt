@@ -1,16 +1,17 @@
 ghost use Rattle.std.specs.Prelude.{◌≡◌, ℕ, List, ◌+◌, ◌-◌, ◌*◌, ◌<◌, ◌≤◌, All, length, take, drop, None, IsSome, IsSomeAnd, slice_get, IfOk, OnOk, OnErr};
 ghost use Rattle.zb_holding.specs.Holding.{StripeHolds};
 ghost use Rattle.zb_holding.specs.Carrying.{carried_all};
-ghost use Rattle.zb_stripe.specs.Writing.{plan_requests, IsWritable};
+ghost use Rattle.zb_stripe.specs.declared.flush.Flush.{Flush};
+ghost use Rattle.zb_stripe.specs.Writing.{plan_requests};
+ghost use Rattle.zb_stripe.specs.Fresh.{IsFreshFlush, HasRoom};
 ghost use Rattle.zb_stripe.specs.Reading.{start, asked};
-ghost use Rattle.zb_stripe_laws.specs.PartAtWork.{MayBegin, StripesDiffer};
 ghost use Rattle.zb_plain.specs.Standing.{maps_of, seen_at};
 ghost use Rattle.zb_plain.specs.Indexed.{AllFitIndex};
-ghost use Rattle.zb_plain.specs.Delivering.{IsBegun, IsTaken, IsFed, ComesTo};
+ghost use Rattle.zb_plain.specs.Delivering.{IsBegun, IsTaken, IsFed, ComesTo, MayWrite};
 
 use crate::servers::PlainServers;
 use std::alloc::Global;
-use zb_stripe::{Flush, Got, ReadPlan, WritePlan};
+use zb_stripe::{FreshFlush, Got, ReadPlan, WritePlan};
 use zb_stripe_laws::read_gives_bytes;
 use zb_types::{Class, Geometry, Mem, Ptr};
 
@@ -31,20 +32,25 @@ impl PlainServers {
         Ok(())
     }
 
-    /// Carries out the requests that write a flush, in order, with no server left away. Where memory runs out, the
-    /// first of them are carried out.
-    pub fn write(&mut self, alloc: Global, geo: &Geometry, flush: &Flush, class: Class) -> Mem<()>
+    /// Carries out the requests that write what is new of a flush, in order, with no server left away. Where memory runs
+    /// out, the first of them are carried out.
+    pub fn write(
+        &mut self,
+        alloc: Global,
+        geo: &Geometry,
+        fresh: &FreshFlush,
+        class: Class,
+    ) -> Mem<()>
         requires servers { length self.old ≡ geo.now.servers }
-        requires fits { All (IsWritable ((geo.now.servers - 1) * geo.now.fragment)) flush.now.parts }
-        requires differ { StripesDiffer flush.now.parts }
-        requires begin { All (MayBegin (seen_at geo.now self.old) flush.now.log) flush.now.parts }
-        ensures ok { OnOk result (maps_of self.new
-            ≡ carried_all (maps_of self.old) (plan_requests geo.now.servers geo.now.fragment None class flush.now)) }
-        ensures err { OnErr result (IsBegun (maps_of self.old) (maps_of self.new)
-            (plan_requests geo.now.servers geo.now.fragment None class flush.now)) }
+        requires fits { All (HasRoom ((geo.now.servers - 1) * geo.now.fragment)) fresh.now.parts }
+        requires may { MayWrite geo.now self.old fresh.now }
+        ensures ok { OnOk result ((flush : Flush) → IsFreshFlush geo.now.servers geo.now.fragment flush fresh.now
+            → maps_of self.new ≡ carried_all (maps_of self.old) (plan_requests geo.now.servers geo.now.fragment None class flush)) }
+        ensures err { OnErr result ((flush : Flush) → IsFreshFlush geo.now.servers geo.now.fragment flush fresh.now
+            → IsBegun (maps_of self.old) (maps_of self.new) (plan_requests geo.now.servers geo.now.fragment None class flush)) }
         ensures count { length self.new ≡ length self.old }
     {
-        let mut plan = WritePlan::new(alloc, geo, flush, None, class)?;
+        let mut plan = WritePlan::new(alloc, geo, fresh, None, class)?;
         'requests: while plan.next().is_some() {
             self.deliver(alloc, &mut plan)?;
         }

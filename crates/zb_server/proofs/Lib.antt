@@ -4,3 +4,4 @@ pub mod Looking
 pub mod Refused
 pub mod Risen
 pub mod Served
+pub mod Sized

@@ -1,9 +1,9 @@
 -- A platter that came back, and the store that was opened on it.
 use Rattle.std.proofs.Common.{◌≢◌, ◌⊎◌, inl, inr, Result, Ok, Err, IfOk, IfErr, refl, ◌∙◌, ap}
 use Rattle.zb_outside.specs.Meaning.{Meaning}
-use Rattle.zb_outside.specs.Runs.{Run, IsSettled}
+use Rattle.zb_outside.specs.Runs.{Run, IsSettled, SparesOthers}
 use Rattle.zb_outside.specs.Platters.{RestartTold}
-use Rattle.zb_outside.proofs.Runs.{then_run, weaker_run}
+use Rattle.zb_outside.proofs.Runs.{then_run, weaker_run, run_spares, others_then}
 use Rattle.zb_types.specs.declared.geometry.Geometry.{Geometry}
 use Rattle.zb_types.specs.declared.ids.ServerId.{ServerId}
 use Rattle.zb_fragstore.specs.declared.faults.OpenFault.{OpenFault}
@@ -25,6 +25,7 @@ module _ (geo : Geometry) (server : ServerId) (a b : Meaning) where
     left = told.seen;
     good = tt;
     unfit = tt;
+    others = run_spares told.ticks;
     looked = λ other. absurd (other refl);
     run = λ whole. weaker_run (restarted r told) (λ other may. inl may);
     is_open = λ whole. tt;
@@ -42,28 +43,33 @@ module _ (geo : Geometry) (server : ServerId) (a b : Meaning) where
     looked_run : IsLookedAt server.0 b c → Run server.0 (a.now.may_leave server.0) a c
     looked_run alone = then_run (restarted {E = E} (Ok u) told) alone.run told.crash
 
+    spared : SparesOthers server.0 b c → SparesOthers server.0 a c
+    spared others = others_then (run_spares told.ticks) others
+
     opened : (store : SeenStore) → IsStoreOf geo server store → IsOpened store b c → IsOpenOn geo (b.now.seen server.0) c store
     opened store is o = record {
       is_open = o.is_open;
       map = λ id. o.map id ∙ ap (λ (g : Geometry). map_on g (b.now.seen store.server.0) id) is.geo_is ∙ ap (λ (s : ServerId). map_on geo (b.now.seen s.0) id) is.server_is;
     }
 
-    pub back_by : (result : Result SeenStore OpenFault) → IfOk result (IsStoreOf geo server) → IfOk result (IsGood geo server (b.now.seen server.0)) → IfErr result (IsUnfit geo server (b.now.seen server.0))
+    pub back_by : SparesOthers server.0 b c → (result : Result SeenStore OpenFault) → IfOk result (IsStoreOf geo server) → IfOk result (IsGood geo server (b.now.seen server.0)) → IfErr result (IsUnfit geo server (b.now.seen server.0))
         → IfErr result (λ fault. fault ≢ Stopped → IsLookedAt server.0 b c) → (IsSettled server.0 b.now → IsWhole geo (b.now.seen server.0) → IfOk result (λ store. IsOpened store b c)) → Reopens geo server result a c
-    back_by (Ok store) is good unfit alone open_by = record {
+    back_by others (Ok store) is good unfit alone open_by = record {
       image = b.now.seen server.0;
       left = told.seen;
       good = good;
       unfit = tt;
+      others = spared others;
       looked = tt;
       run = back_run;
       is_open = λ are. opened store is (open_by told.ok (whole are));
     }
-    back_by (Err why) is good unfit alone open_by = record {
+    back_by others (Err why) is good unfit alone open_by = record {
       image = b.now.seen server.0;
       left = told.seen;
       good = tt;
       unfit = unfit;
+      others = spared others;
       looked = λ other. looked_run (alone other);
       run = back_run;
       is_open = λ are. tt;

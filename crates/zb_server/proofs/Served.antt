@@ -1,5 +1,5 @@
 -- What a node does whose store has answered.
-use Rattle.std.proofs.Common.{◌≡◌, ◌⊎◌, inr, ℕ, Bool, false, Result, Some, sym, ◌∙◌, ap, subst}
+use Rattle.std.proofs.Common.{◌≡◌, ◌⊎◌, inr, ℕ, Bool, false, Result, Ok, Err, Some, sym, ◌∙◌, ap, subst}
 use Rattle.zb_outside.specs.Meaning.{Meaning}
 use Rattle.zb_types.specs.declared.geometry.Geometry.{Geometry}
 use Rattle.zb_types.specs.declared.ids.ServerId.{ServerId}
@@ -12,7 +12,10 @@ use Rattle.zb_fragstore.specs.Answers.{HasStopped}
 use Rattle.zb_fragstore.specs.Changing.{map_in, IsOpen}
 use Rattle.zb_fragstore.specs.Reading.{IsLookedAt}
 use Rattle.zb_server.specs.Answering.{said, HasAnswered, Answers}
+use Rattle.zb_fragstore.specs.declared.faults.OpenFault.{OpenFault}
+use Rattle.zb_fragstore.specs.declared.faults.OpenFault.TheVariants as fault
 use Rattle.zb_server.specs.Asking.{FitsSystem}
+use Rattle.zb_server.specs.Rising.{away, Leaves}
 use Rattle.zb_server.specs.Serving.{MayServe, IsNodeOf, StaysUp, Serves, WentDown}
 use Rattle.zb_server.specs.declared.server.Server.{Server}
 use Rattle.zb_server.specs.declared.server.Server.TheVariants.{Up, Down, Blank}
@@ -22,6 +25,17 @@ pub may_serve : (geo : Geometry) (server : ServerId) (node : Server) (request : 
 may_serve geo server (Up store mending) request is fits = subst (λ (g : Geometry). FitsSystem g request) (sym is.geo_is) fits
 may_serve geo server Down request is fits = tt
 may_serve geo server Blank request is fits = tt
+
+away_node : (geo : Geometry) (server : ServerId) (why : OpenFault) → IsNodeOf geo server (away why)
+away_node geo server fault.Blank = tt
+away_node geo server (fault.Damaged slot) = tt
+away_node geo server fault.NoMemory = tt
+away_node geo server fault.Stopped = tt
+
+-- a node that was brought up, or wasn't, is of its server
+pub risen_node : (geo : Geometry) (server : ServerId) (result : Result (Unit {0}) OpenFault) (new : Server) → Leaves geo server result new → IsNodeOf geo server new
+risen_node geo server (Ok done) new h = subst (IsNodeOf geo server) (sym h.up) h.system
+risen_node geo server (Err why) new h = subst (IsNodeOf geo server) (sym h) (away_node geo server why)
 
 -- the store of a node, or else another
 abbrev store_or : SeenStore → Server → SeenStore

@@ -1,7 +1,7 @@
 -- What a node that is brought up does.
 use Rattle.std.specs.Prelude.{◌≡◌, ◌≢◌, ◌⊎◌, false, ℕ, List, Result, Ok, Err, IfOk, IfErr}
 use Rattle.zb_outside.specs.Meaning.{Meaning}
-use Rattle.zb_outside.specs.Runs.{Run}
+use Rattle.zb_outside.specs.Runs.{Run, SparesOthers}
 use Rattle.zb_types.specs.declared.geometry.Geometry.{Geometry}
 use Rattle.zb_types.specs.declared.ids.FragId.{FragId}
 use Rattle.zb_types.specs.declared.ids.ServerId.{ServerId}
@@ -42,7 +42,7 @@ pub record IsOpenOn (geo : Geometry) (image : List ℕ) (b : Meaning) (store : S
   pub is_open : IsOpen store b.now
   pub map : (id : FragId) → map_in store b.now id ≡ map_on geo image id
 
--- a platter came back with an image that it might leave. The outcome is that of this image: a store is opened on it that is this
+-- a platter came back with an image that it might leave, and the others are as before at each moment. The outcome is that of this image: a store is opened on it that is this
 -- server's, or the fault is true of it. After a fault other than a stop the platter still may have any image that it might leave;
 -- and if those have room, it has at each moment one of them or this one with the same map and fence, and the store that was opened
 -- has its map
@@ -51,6 +51,7 @@ pub record Reopens (geo : Geometry) (server : ServerId) (result : Result SeenSto
   pub left : a.now.may_leave server.0 image
   pub good : IfOk result (IsGood geo server image)
   pub unfit : IfErr result (IsUnfit geo server image)
+  pub others : SparesOthers server.0 a b
   pub looked : IfErr result (λ fault. fault ≢ Stopped → Run server.0 (a.now.may_leave server.0) a b)
   pub run : AreWhole geo server a → Run server.0 (λ other. a.now.may_leave server.0 other ⊎ StaysWhole geo image other) a b
   pub is_open : AreWhole geo server a → IfOk result (IsOpenOn geo image b)

@@ -1,12 +1,13 @@
 ghost use Rattle.std.specs.Prelude.{◌≡◌, true, false, Some, Err, IsTrue, IfOk, IfErr};
 ghost use Rattle.zb_outside.specs.Counts.{Touches};
+ghost use Rattle.zb_outside.specs.Runs.{SparesOthers};
 ghost use Rattle.zb_holding.specs.Rules.{AreTold, known_refusal, refusal_of};
-ghost use Rattle.zb_fragstore.specs.Seen.{IsStoreOf, is_there, known, holding};
+ghost use Rattle.zb_fragstore.specs.Seen.{IsStoreOf, is_there, size_in, known, holding};
 ghost use Rattle.zb_fragstore.specs.Answers.{HasStopped, is_stopped};
 ghost use Rattle.zb_fragstore.specs.Changing.{map_in, IsOpen};
 ghost use Rattle.zb_fragstore.specs.Reading.{IsLookedAt};
 ghost use Rattle.zb_server.specs.Asking.{FitsSystem, most_writes};
-ghost use Rattle.zb_server.specs.Answering.{done, said, IsKnown, Answers};
+ghost use Rattle.zb_server.specs.Answering.{done, said, IsKnown, AreSizesLeft, Answers};
 
 use std::alloc::Global;
 use zb_fragstore::FragStore;
@@ -68,6 +69,8 @@ pub fn answer<B: Bay>(
     ensures refused { (fault : StoreFault) → known_refusal (known store.old) generation request.now ≡ Some fault
         → (result ≡ Err fault) × (bay.new ≡ bay.old) × (store.new ≡ store.old) }
     ensures known { (HasStopped result → ⊥) → IsKnown store.old generation request.now store.new (said result) }
+    ensures sizes { (HasStopped result → ⊥) → AreSizesLeft request.now (said result) (size_in store.old) (size_in store.new) }
+    ensures others { IsTrue B.tells → SparesOthers store.old.server.0 (B.meaning bay.old) (B.meaning bay.new) }
     ensures touches { Touches B.counts B.follows store.old.server.0 (most_writes request.now) (is_stopped result) bay.old bay.new }
 {
     match request {

@@ -1,15 +1,16 @@
 ghost use Rattle.std.specs.Prelude.{◌≡◌, ◌⊎◌, ◌*◌, Bool, Some, IsTrue, IfOk};
 ghost use Rattle.zb_outside.specs.Counts.{Touches, GoesOn};
+ghost use Rattle.zb_outside.specs.Runs.{SparesOthers};
 ghost use Rattle.zb_types.specs.declared.geometry.Geometry.{Geometry as SeenGeometry};
 ghost use Rattle.zb_types.specs.declared.ids.ServerId.{ServerId as SeenServerId};
-ghost use Rattle.zb_fragstore.specs.Seen.{SeenStore, IsStoreOf, known, holding};
+ghost use Rattle.zb_fragstore.specs.Seen.{SeenStore, IsStoreOf, size_in, known, holding};
 ghost use Rattle.zb_holding.specs.Rules.{known_refusal, refusal_of};
 ghost use Rattle.zb_types.specs.declared.requests.StoreFault.{StoreFault};
 ghost use Rattle.zb_fragstore.specs.Changing.{map_in, IsOpen};
 ghost use Rattle.zb_fragstore.specs.Reading.{IsLookedAt};
 ghost use Rattle.zb_fragstore.specs.Opening.{opening_stopped};
 ghost use Rattle.zb_server.specs.Asking.{most_writes};
-ghost use Rattle.zb_server.specs.Answering.{IsKnown};
+ghost use Rattle.zb_server.specs.Answering.{IsKnown, AreSizesLeft};
 ghost use Rattle.zb_server.specs.Serving.{MayServe, IsNodeOf, IsAway, crashed, WentDown, StaysUp, Serves, is_down, is_serving};
 ghost use Rattle.zb_server.specs.Rising.{away, Leaves, Reopens, Rises};
 
@@ -59,7 +60,8 @@ impl Server {
     /// its store answers. A store whose platter stopped makes the node down, and the answer is `Down` then.
     ///
     /// What the store refuses by what it has in memory makes no call of the platter, and leaves the node as it was. What
-    /// it refuses by what stands on the platter only looks at it, also where the platter stops.
+    /// it refuses by what stands on the platter only looks at it, also where the platter stops. The other platters are as
+    /// before at each moment, whatever this one holds.
     ///
     /// What a node that is up is asked fits its system: a share goes to an index below the last and a parity to the last,
     /// and all bytes lie within a fragment.
@@ -90,6 +92,10 @@ impl Server {
         ensures still { IsAway self.old → bay.new ≡ bay.old }
         ensures known { (store : SeenStore) (mending : Bool) → self.old ≡ Server.Up store mending
             → (now : SeenStore) → self.new ≡ Server.Up now mending → IsKnown store generation request.now now result }
+        ensures sizes { (store : SeenStore) (mending : Bool) → self.old ≡ Server.Up store mending
+            → (now : SeenStore) → self.new ≡ Server.Up now mending → AreSizesLeft request.now result (size_in store) (size_in now) }
+        ensures others { (store : SeenStore) (mending : Bool) → self.old ≡ Server.Up store mending
+            → IsTrue B.tells → SparesOthers store.server.0 (B.meaning bay.old) (B.meaning bay.new) }
         ensures touches { (store : SeenStore) (mending : Bool) → self.old ≡ Server.Up store mending
             → Touches B.counts B.follows store.server.0 (most_writes request.now) (is_down self.new) bay.old bay.new }
         ensures goes_on { GoesOn B.counts B.follows bay.old bay.new }

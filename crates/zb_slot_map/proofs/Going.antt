@@ -38,11 +38,11 @@ counted [] k lt = absurd (omega arith)
 counted (x ∷ xs) zero lt = omega (arith, one x)
 counted (x ∷ xs) (suc k) lt = omega (arith, counted xs k (omega arith))
 
-pub same_image : (geo : Geometry) (image : List ℕ) → IsSound geo image → StaysSame geo image image
-same_image geo image sound = record { sound = sound; super = refl; size = refl; map = λ id. refl }
+pub same_image : (geo : Geometry) (image : List ℕ) → StaysSame geo image image
+same_image geo image = record { sound = λ s. s; super = refl; size = refl; map = λ id. refl }
 
 pub same_then : (geo : Geometry) (a b c : List ℕ) → StaysSame geo a b → StaysSame geo b c → StaysSame geo a c
-same_then geo a b c f s = record { sound = s.sound; super = s.super ∙ f.super; size = s.size ∙ f.size; map = λ id. s.map id ∙ f.map id }
+same_then geo a b c f s = record { sound = λ x. s.sound (f.sound x); super = s.super ∙ f.super; size = s.size ∙ f.size; map = λ id. s.map id ∙ f.map id }
 
 -- a slot with an older parity is written
 module _ (geo : Geometry) (j : ℕ) (old : List ℕ) (sound : IsSound geo old) (older : IsOlder (slots_in geo old) geo.slots j) where
@@ -51,7 +51,7 @@ module _ (geo : Geometry) (j : ℕ) (old : List ℕ) (sound : IsSound geo old) (
       (λ same.
       let all : (k : ℕ) → k < geo.slots → slots_in geo new k ≡ slots_in geo old k = all_same geo j old new h.outside same in
       record {
-        sound = record { large = omega (arith, sound.large, h.outside.same_length); good = still_good (slots_in geo old) (slots_in geo new) geo.slots (λ k lt. inl (all k lt)) sound.good };
+        sound = λ _. record { large = omega (arith, sound.large, h.outside.same_length); good = still_good (slots_in geo old) (slots_in geo new) geo.slots (λ k lt. inl (all k lt)) sound.good };
         super = super_same geo j old new h.outside;
         size = h.outside.same_length;
         map = map_same geo old new all;
@@ -59,7 +59,7 @@ module _ (geo : Geometry) (j : ℕ) (old : List ℕ) (sound : IsSound geo old) (
       (λ gone.
       let others = others_same geo j old new h.outside in
       record {
-        sound = record {
+        sound = λ _. record {
           large = omega (arith, sound.large, h.outside.same_length);
           good = still_good (slots_in geo old) (slots_in geo new) geo.slots (as_before_or_free (slots_in geo old) (slots_in geo new) geo.slots j sound.good older others gone) sound.good;
         };
@@ -84,6 +84,7 @@ increasing xs order i (suc k) lt within =
 -- the first i of the list are freed
 pub record Going (geo : Geometry) (older : List ℕ) (i : ℕ) (old new : List ℕ) : Type 0 where
   pub same : StaysSame geo old new
+  pub sound : IsSound geo new
   pub free : (k : ℕ) → k < i → slots_in geo new (slice_index older k) ≡ free_slot
   pub others : (j : ℕ) → j < geo.slots → ((k : ℕ) → k < i → slice_index older k ≢ j) → slots_in geo new j ≡ slots_in geo old j
   pub rest : (k : ℕ) → i ≤ k → k < length older → IsOlder (slots_in geo new) geo.slots (slice_index older k)
@@ -91,7 +92,8 @@ pub record Going (geo : Geometry) (older : List ℕ) (i : ℕ) (old new : List �
 
 pub none_freed : (geo : Geometry) (older image : List ℕ) → IsSound geo image → HasOlder geo image older → Going geo older 0 image image
 none_freed geo older image sound has = record {
-  same = same_image geo image sound;
+  same = same_image geo image;
+  sound = sound;
   free = λ k lt. absurd (omega arith);
   others = λ j lt ne. refl;
   rest = λ k le lt. has.each (slice_index older k) (counted older k lt);
@@ -108,7 +110,7 @@ module _ (geo : Geometry) (older : List ℕ) (i : ℕ) (old now new : List ℕ) 
   here = going.rest i (omega arith) within
 
   pub still_same : StaysSame geo old new
-  still_same = same_then geo old now new going.same (free_keeps geo this now going.same.sound here new h)
+  still_same = same_then geo old now new going.same (free_keeps geo this now going.sound here new h)
 
   below : (k : ℕ) → k < length older → slice_index older k < geo.slots
   below k lt = (has.each (slice_index older k) (counted older k lt)).within
@@ -116,9 +118,10 @@ module _ (geo : Geometry) (older : List ℕ) (i : ℕ) (old now new : List ℕ) 
   pub went : slots_in geo new this ≡ free_slot → Going geo older (i + 1) old new
   went gone =
       let others = others_same geo this now new h.outside in
-      let good = going.same.sound.good in
+      let good = going.sound.good in
       record {
         same = still_same;
+        sound = (free_keeps geo this now going.sound here new h).sound going.sound;
         free = λ k lt. elim (cases_eq (slice_index older k) this) [
           | inl is ↦ ap (slots_in geo new) is ∙ gone
           | inr not ↦
@@ -136,7 +139,7 @@ module _ (geo : Geometry) (older : List ℕ) (i : ℕ) (old now new : List ℕ) 
 
 pub all_freed : (geo : Geometry) (older : List ℕ) (i : ℕ) (old new : List ℕ) → i ≡ length older → HasOlder geo old older → Going geo older i old new → HasFreed geo older old new
 all_freed geo older i old new all has going = record {
-  tidy = record { large = going.same.sound.large; slots = tidy_when_none (slots_in geo new) geo.slots going.same.sound.good (λ j h. not_free h.stored (sym (freed j (has.all j (going.back j h))) ∙ h.full)) };
+  tidy = record { large = going.sound.large; slots = tidy_when_none (slots_in geo new) geo.slots going.sound.good (λ j h. not_free h.stored (sym (freed j (has.all j (going.back j h))) ∙ h.full)) };
   slots = record {
     free = λ j lt there. freed j there;
     others = λ j lt none. going.others j lt (λ k lk e. absurd (omega (arith, none, ap (λ (m : ℕ). times m older) e, counted older k (omega (arith, lk, all)))));
@@ -158,7 +161,7 @@ pub record IsUnderway (geo : Geometry) (p : ℕ) (older : List ℕ) (i : ℕ) (a
 
 pub begun : (geo : Geometry) (p : ℕ) (older : List ℕ) (a : Meaning) → IsSettled p a.now → IsSound geo (a.now.seen p) → HasOlder geo (a.now.seen p) older → IsUnderway geo p older 0 a a
 begun geo p older a settled sound has = record {
-  run = started p (StaysSame geo (a.now.seen p)) a (λ c h. subst (StaysSame geo (a.now.seen p)) (sym (settled.only c h)) (same_image geo (a.now.seen p) sound));
+  run = started p (StaysSame geo (a.now.seen p)) a (λ c h. subst (StaysSame geo (a.now.seen p)) (sym (settled.only c h)) (same_image geo (a.now.seen p)));
   settled = settled;
   going = none_freed geo older (a.now.seen p) sound has;
 }
@@ -170,7 +173,7 @@ module _ {p : ℕ} {a b : Meaning} (geo : Geometry) (older : List ℕ) (i slot p
   pub ready : IsReady p place geo.fragment b.now
   ready = record {
     settled = way.settled;
-    within = omega (arith, there, slot_within geo.fragment (slice_index older i) geo.slots (way.going.rest i (omega arith) within).within, way.going.same.sound.large);
+    within = omega (arith, there, slot_within geo.fragment (slice_index older i) geo.slots (way.going.rest i (omega arith) within).within, way.going.sound.large);
   }
 
   moved : {T E : Type 0} {r : Result T E} {c : Meaning} → SlotTold geo.servers geo.fragment p place free_slot r b c → SlotTold geo.servers geo.fragment p (slot_place geo.fragment (slice_index older i)) free_slot r b c

@@ -1,12 +1,12 @@
 -- Slots none of which is bad, where some are freed whose name another slot stands for.
-use Rattle.std.proofs.Common.{◌≡◌, ◌≢◌, ◌⊎◌, inl, inr, ⊎_elim, ℕ, zero, suc, ◌<◌, ◌==◌, Bool, true, false, if◌then◌else◌, Option, None, Some, refl, sym, ◌∙◌, ap, subst, arith}
-use Rattle.std.proofs.lemmas.Bool.{cases_eq, cases_lt}
+use Rattle.std.proofs.Common.{IsTrue, ◌≡◌, ◌≢◌, ◌⊎◌, inl, inr, ⊎_elim, ℕ, zero, suc, ◌<◌, ◌==◌, Bool, true, false, if◌then◌else◌, Option, None, Some, refl, sym, ◌∙◌, ap, subst, arith}
+use Rattle.std.proofs.lemmas.Bool.{cases_eq, cases_lt, false≢true}
 use Rattle.zb_cell.specs.Cell.{following}
 use Rattle.zb_types.specs.declared.ids.FragId.{FragId}
 use Rattle.zb_holding.specs.Carrying.{same_frag}
 use Rattle.zb_holding.specs.Fragments.{Fragment, share_fragment, parity_fragment}
 use Rattle.zb_slots.specs.Slots.{Slot, Stored, bad_slot, free_slot, full_slot}
-use Rattle.zb_slots.specs.Holding.{named, newer, held, IsParity, Repeats, AreTwoParities}
+use Rattle.zb_slots.specs.Holding.{named, newer, held, is_parity, Repeats, AreTwoParities}
 use Rattle.zb_slots.specs.Laws.{SameBut, NoneBut}
 use Rattle.zb_slots.proofs.Held.{others_stay, one_holds, none_holds}
 use Rattle.zb_slot_map.specs.Tidy.{AreTidy}
@@ -14,9 +14,9 @@ use Rattle.zb_slot_map.proofs.Names.{one_name, named_full, named_other}
 use Rattle.zb_slot_map.proofs.Knowing.{not_free, same_stored}
 use Rattle.zb_index.specs.Twins.{NoneIsBad, IsOlder}
 
-stable_parity : (fragment : Fragment) → ((IsParity fragment → ⊥) → ⊥) → IsParity fragment
-stable_parity (share_fragment bytes) h = h (λ x. x)
-stable_parity (parity_fragment lengths bytes) h = tt
+stable_parity : (fragment : Fragment) → ((IsTrue (is_parity fragment) → ⊥) → ⊥) → IsTrue (is_parity fragment)
+stable_parity (share_fragment bytes) h = absurd (h (λ x. false≢true x))
+stable_parity (parity_fragment lengths bytes) h = refl
 
 stable_none : (found : Option Stored) → ((found ≡ None → ⊥) → ⊥) → found ≡ None
 stable_none None h = refl

@@ -1,5 +1,5 @@
 -- A parity that replaces another: first both stand, and then the newer alone.
-use Rattle.std.proofs.Common.{◌≡◌, ◌≢◌, inl, inr, ⊎_elim, ℕ, ◌<◌, ◌==◌, Bool, true, false, if◌then◌else◌, Option, None, Some, refl, sym, ◌∙◌, ap, subst, arith}
+use Rattle.std.proofs.Common.{IsTrue, ◌≡◌, ◌≢◌, inl, inr, ⊎_elim, ℕ, ◌<◌, ◌==◌, Bool, true, false, if◌then◌else◌, Option, None, Some, refl, sym, ◌∙◌, ap, subst, arith}
 use Rattle.std.proofs.lemmas.Bool.{cases_eq}
 use Rattle.std.proofs.lemmas.Bool.Decides.{nat_tests}
 use Rattle.zb_cell.specs.Cell.{following}
@@ -7,7 +7,7 @@ use Rattle.zb_types.specs.declared.ids.FragId.{FragId}
 use Rattle.zb_holding.specs.Carrying.{same_frag}
 use Rattle.zb_holding.specs.Fragments.{Fragment}
 use Rattle.zb_slots.specs.Slots.{Slot, Stored, free_slot, full_slot}
-use Rattle.zb_slots.specs.Holding.{named, held, fragment_of, IsParity, IsBad, Repeats, AreTwoParities}
+use Rattle.zb_slots.specs.Holding.{named, held, fragment_of, is_parity, IsBad, Repeats, AreTwoParities}
 use Rattle.zb_slots.specs.Laws.{SameBut}
 use Rattle.zb_slots.proofs.Held.{others_stay, newer_counts}
 use Rattle.zb_slot_map.specs.Tidy.{AreTidy, put}
@@ -26,8 +26,8 @@ pub record MayReplace (n i j : ℕ) (s t : Stored) (before : ℕ → Slot) : Typ
   pub one : t.id ≡ s.id
   pub small : s.turn < 3
   pub follows : t.turn ≡ following s.turn
-  pub first : IsParity s.fragment
-  pub other : IsParity t.fragment
+  pub first : IsTrue (is_parity s.fragment)
+  pub other : IsTrue (is_parity t.fragment)
 
 module _ (n i j : ℕ) (s t : Stored) (before : ℕ → Slot) (may : MayReplace n i j s t before) where
   pub apart : j ≢ i
@@ -69,16 +69,16 @@ module _ (n i j : ℕ) (s t : Stored) (before : ℕ → Slot) (may : MayReplace 
 
     two_up : (a b : Stored) → s ≡ a → t ≡ b → AreTwoParities both n i j a b
     two_up a b x y = record {
-      first = subst (λ (u : Stored). IsParity u.fragment) x may.first;
-      other = subst (λ (u : Stored). IsParity u.fragment) y may.other;
+      first = subst (λ (u : Stored). IsTrue (is_parity u.fragment)) x may.first;
+      other = subst (λ (u : Stored). IsTrue (is_parity u.fragment)) y may.other;
       turns = λ e. turns (ap (λ (u : Stored). u.turn) y ∙ sym e ∙ sym (ap (λ (u : Stored). u.turn) x));
       alone = λ k lt ni nj. ap (λ (u : Stored). named u.id (both k)) (sym x) ∙ none_else k lt ni nj;
     }
 
     two_down : (a b : Stored) → t ≡ a → s ≡ b → AreTwoParities both n j i a b
     two_down a b x y = record {
-      first = subst (λ (u : Stored). IsParity u.fragment) x may.other;
-      other = subst (λ (u : Stored). IsParity u.fragment) y may.first;
+      first = subst (λ (u : Stored). IsTrue (is_parity u.fragment)) x may.other;
+      other = subst (λ (u : Stored). IsTrue (is_parity u.fragment)) y may.first;
       turns = λ e. turns (ap (λ (u : Stored). u.turn) x ∙ e ∙ sym (ap (λ (u : Stored). u.turn) y));
       alone = λ k lt nj ni. ap (λ (u : Stored). named u.id (both k)) (sym x) ∙ ap (λ (q : FragId). named q (both k)) may.one ∙ none_else k lt ni nj;
     }

@@ -14,9 +14,9 @@ use Rattle.zb_index.specs.Twins.{AreOlder, AreFreed}
 abbrev pub HasOlder : Geometry → (image older : List ℕ) → Type 0
 HasOlder geo image older = AreOlder (slots_in geo image) geo.slots older
 
--- no slot is bad, and the super cell, the length and the map are as before
+-- the super cell, the length and the map are as before, and no slot is bad if none was
 pub record StaysSame (geo : Geometry) (old new : List ℕ) : Type 0 where
-  pub sound : IsSound geo new
+  pub sound : IsSound geo old → IsSound geo new
   pub super : value new 0 ≡ value old 0
   pub size : length new ≡ length old
   pub map : (id : FragId) → map_of geo new id ≡ map_of geo old id

@@ -1,13 +1,13 @@
-ghost use Rattle.std.specs.Prelude.{is_err, ◌≡◌, ◌≢◌, ◌≤◌, ◌<◌, ◌+◌, ◌-◌, ◌++◌, ℕ, List, Some, None, drop, length, IsTrue};
+ghost use Rattle.std.specs.Prelude.{is_err, ◌≡◌, ◌≤◌, ◌<◌, ◌+◌, Some, None, length, IsTrue};
 ghost use Rattle.zb_outside.specs.Counts.{Touches};
-ghost use Rattle.zb_holding.specs.Fragments.{share_fragment, parity_fragment};
+ghost use Rattle.zb_outside.specs.Runs.{SparesOthers};
+ghost use Rattle.zb_holding.specs.Fragments.{share_fragment};
 ghost use Rattle.zb_slots.specs.Slots.{Stored, free_slot, full_slot};
-ghost use Rattle.zb_slots.specs.Area.{lengths_in};
-ghost use Rattle.zb_slots.specs.Changing.{share_slot, parity_slot};
+ghost use Rattle.zb_slots.specs.Changing.{share_slot};
 ghost use Rattle.zb_slots.specs.Slots.{slots_in};
 ghost use Rattle.zb_slots.specs.Holding.{map_of};
 ghost use Rattle.zb_slot_map.specs.Tidy.{put};
-ghost use Rattle.zb_slot_map.specs.Changing.{IsKept, MapTold};
+ghost use Rattle.zb_slot_map.specs.Changing.{IsKept, MapTold, AppendsShare, StoresParity};
 
 use zb_outside::Bay;
 use zb_slots::{append, free, place_of, store, store_parity};
@@ -29,6 +29,7 @@ pub fn store_at<B: Bay>(
     requires share { id.index + 1 < geo.now.servers }
     requires room { length bytes.now ≤ geo.now.fragment }
     ensures told { IsTrue B.tells → IsKept geo.now platter (B.meaning bay.old).now → let image = (B.meaning bay.old).now.seen platter in slots_in geo.now image slot ≡ free_slot → map_of geo.now image id ≡ None → MapTold geo.now platter slot (share_slot id bytes.now) (put id (Some (share_fragment bytes.now)) (map_of geo.now image)) result (B.meaning bay.old) (B.meaning bay.new) }
+    ensures others { IsTrue B.tells → SparesOthers platter (B.meaning bay.old) (B.meaning bay.new) }
     ensures touches { Touches B.counts B.follows platter 4 (is_err result) bay.old bay.new }
 {
     store(bay, geo, platter, place_of(geo, slot), id, bytes)
@@ -51,7 +52,9 @@ pub fn append_at<B: Bay>(
     requires slot { slot < geo.now.slots }
     requires share { id.index + 1 < geo.now.servers }
     requires room { len + length bytes.now ≤ geo.now.fragment }
-    ensures told { IsTrue B.tells → IsKept geo.now platter (B.meaning bay.old).now → (stands : List ℕ) → let image = (B.meaning bay.old).now.seen platter in length stands ≡ len → slots_in geo.now image slot ≡ share_slot id stands → MapTold geo.now platter slot (share_slot id (stands ++ bytes.now)) (put id (Some (share_fragment (stands ++ bytes.now))) (map_of geo.now image)) result (B.meaning bay.old) (B.meaning bay.new) }
+    ensures told { IsTrue B.tells → IsKept geo.now platter (B.meaning bay.old).now
+        → AppendsShare geo.now platter slot id len bytes.now result (B.meaning bay.old) (B.meaning bay.new) }
+    ensures others { IsTrue B.tells → SparesOthers platter (B.meaning bay.old) (B.meaning bay.new) }
     ensures touches { Touches B.counts B.follows platter 4 (is_err result) bay.old bay.new }
 {
     append(bay, geo, platter, place_of(geo, slot), id, len, bytes)
@@ -74,7 +77,9 @@ pub fn store_parity_at<B: Bay>(
     requires parity { id.index + 1 ≡ geo.now.servers }
     requires lengths { 64 ≤ length area.now }
     requires room { length area.now ≤ 64 + geo.now.fragment }
-    ensures told { IsTrue B.tells → IsKept geo.now platter (B.meaning bay.old).now → let image = (B.meaning bay.old).now.seen platter in let lengths = lengths_in (geo.now.servers - 1) area.now in slots_in geo.now image slot ≡ free_slot → map_of geo.now image id ≡ None → MapTold geo.now platter slot (parity_slot id 0 lengths (drop 64 area.now)) (put id (Some (parity_fragment lengths (drop 64 area.now))) (map_of geo.now image)) result (B.meaning bay.old) (B.meaning bay.new) }
+    ensures told { IsTrue B.tells → IsKept geo.now platter (B.meaning bay.old).now
+        → StoresParity geo.now platter slot id area.now result (B.meaning bay.old) (B.meaning bay.new) }
+    ensures others { IsTrue B.tells → SparesOthers platter (B.meaning bay.old) (B.meaning bay.new) }
     ensures touches { Touches B.counts B.follows platter 4 (is_err result) bay.old bay.new }
 {
     store_parity(bay, geo, platter, place_of(geo, slot), id, 0, area)
@@ -87,6 +92,7 @@ pub fn free_at<B: Bay>(bay: &mut B, geo: &Geometry, platter: usize, slot: u32) -
     requires platter { platter ≤ 255 }
     requires slot { slot < geo.now.slots }
     ensures told { IsTrue B.tells → IsKept geo.now platter (B.meaning bay.old).now → (stored : Stored) → let image = (B.meaning bay.old).now.seen platter in slots_in geo.now image slot ≡ full_slot stored → MapTold geo.now platter slot free_slot (put stored.id None (map_of geo.now image)) result (B.meaning bay.old) (B.meaning bay.new) }
+    ensures others { IsTrue B.tells → SparesOthers platter (B.meaning bay.old) (B.meaning bay.new) }
     ensures touches { Touches B.counts B.follows platter 3 (is_err result) bay.old bay.new }
 {
     free(bay, geo, platter, place_of(geo, slot))

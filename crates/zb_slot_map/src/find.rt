@@ -1,5 +1,4 @@
 ghost use Rattle.std.specs.Prelude.{is_err, ◌≡◌, ◌≢◌, ◌≤◌, ℕ, Some, IsTrue, IfOk, MatchOption};
-ghost use Rattle.byteorder.specs.Endian.{big_from};
 ghost use Rattle.zb_outside.specs.Counts.{Touches};
 ghost use Rattle.zb_outside.specs.Runs.{Held};
 ghost use Rattle.zb_cell.specs.Cell.{value};
@@ -8,28 +7,14 @@ ghost use Rattle.zb_slot_map.specs.Super.{super_text, IsNoneOf, IsOf};
 use crate::super_cell::spell_super;
 use zb_cell::{CellFault, get};
 use zb_outside::Bay;
+use zb_slots::u64_at;
 use zb_types::{Failed, Geometry, ServerId};
-
-fn fence_in(payload: &[u8; 40]) -> u64
-    ensures { result ≡ big_from 24 8 payload.now }
-{
-    u64::from_be_bytes([
-        payload[24],
-        payload[25],
-        payload[26],
-        payload[27],
-        payload[28],
-        payload[29],
-        payload[30],
-        payload[31],
-    ])
-}
 
 // The fence of a super cell of this server.
 fn judge(geo: &Geometry, server: ServerId, payload: &[u8; 40]) -> Option<u64>
     ensures { MatchOption result (IsNoneOf geo.now server.0 payload.now) (λ fence. payload.now ≡ super_text geo.now server.0 fence) }
 {
-    let fence = fence_in(payload);
+    let fence = u64_at(payload, 24);
     if *payload == spell_super(geo, server, fence) {
         return Some(fence);
     }

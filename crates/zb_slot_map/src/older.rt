@@ -1,6 +1,6 @@
 ghost use Rattle.std.specs.Prelude.{is_err, ◌*◌, length, ◌≡◌, ◌≢◌, ◌≤◌, ◌<◌, ℕ, All, IsTrue};
 ghost use Rattle.zb_outside.specs.Counts.{Touches};
-ghost use Rattle.zb_outside.specs.Runs.{IsSettled};
+ghost use Rattle.zb_outside.specs.Runs.{IsSettled, SparesOthers};
 ghost use Rattle.zb_slot_map.specs.Tidy.{IsSound};
 ghost use Rattle.zb_slot_map.specs.Freeing.{HasOlder, FreeTold};
 
@@ -21,6 +21,7 @@ pub fn free_older<B: Bay>(
     requires platter { platter ≤ 255 }
     requires older { All (λ slot. slot < geo.now.slots) older.now }
     ensures told { IsTrue B.tells → IsSettled platter (B.meaning bay.old).now → IsSound geo.now ((B.meaning bay.old).now.seen platter) → HasOlder geo.now ((B.meaning bay.old).now.seen platter) older.now → FreeTold geo.now platter older.now result (B.meaning bay.old) (B.meaning bay.new) }
+    ensures others { IsTrue B.tells → SparesOthers platter (B.meaning bay.old) (B.meaning bay.new) }
     ensures touches { Touches B.counts B.follows platter (3 * length older.now) (is_err result) bay.old bay.new }
 {
     for slot in older {

@@ -1,17 +1,11 @@
-ghost use Rattle.std.specs.Prelude.{is_err, ◌≡◌, ◌≢◌, ◌≤◌, ◌<◌, ◌+◌, ◌-◌, ℕ, List, Some, drop, length, IsTrue};
+ghost use Rattle.std.specs.Prelude.{is_err, ◌≡◌, ◌≤◌, ◌<◌, ◌+◌, length, IsTrue};
 ghost use Rattle.zb_outside.specs.Counts.{Touches};
-ghost use Rattle.zb_cell.specs.Cell.{following};
-ghost use Rattle.zb_holding.specs.Fragments.{parity_fragment};
-ghost use Rattle.zb_slots.specs.Slots.{free_slot};
-ghost use Rattle.zb_slots.specs.Area.{lengths_in};
-ghost use Rattle.zb_slots.specs.Changing.{parity_slot};
-ghost use Rattle.zb_slots.specs.Slots.{slots_in};
-ghost use Rattle.zb_slots.specs.Holding.{map_of};
-ghost use Rattle.zb_slot_map.specs.Tidy.{put};
-ghost use Rattle.zb_slot_map.specs.Changing.{IsKept, ReplaceTold};
+ghost use Rattle.zb_outside.specs.Runs.{SparesOthers};
+ghost use Rattle.zb_slot_map.specs.Changing.{IsKept, ReplacesParity};
 
+use zb_cell::following;
 use zb_outside::Bay;
-use zb_slots::{following, free, place_of, store_parity};
+use zb_slots::{free, place_of, store_parity};
 use zb_types::{Failed, FragId, Geometry};
 
 /// The slot of a parity, and its turn, 0 to 2.
@@ -41,7 +35,9 @@ pub fn replace_parity_at<B: Bay>(
     requires parity { id.index + 1 ≡ geo.now.servers }
     requires lengths { 64 ≤ length area.now }
     requires room { length area.now ≤ 64 + geo.now.fragment }
-    ensures told { IsTrue B.tells → IsKept geo.now platter (B.meaning bay.old).now → (covered bytes : List ℕ) → let image = (B.meaning bay.old).now.seen platter in let lengths = lengths_in (geo.now.servers - 1) area.now in slots_in geo.now image former.slot ≡ parity_slot id former.turn covered bytes → slots_in geo.now image slot ≡ free_slot → ReplaceTold geo.now platter former.slot slot (parity_slot id (following former.turn) lengths (drop 64 area.now)) (put id (Some (parity_fragment lengths (drop 64 area.now))) (map_of geo.now image)) result (B.meaning bay.old) (B.meaning bay.new) }
+    ensures told { IsTrue B.tells → IsKept geo.now platter (B.meaning bay.old).now
+        → ReplacesParity geo.now platter former slot id area.now result (B.meaning bay.old) (B.meaning bay.new) }
+    ensures others { IsTrue B.tells → SparesOthers platter (B.meaning bay.old) (B.meaning bay.new) }
     ensures touches { Touches B.counts B.follows platter 7 (is_err result) bay.old bay.new }
 {
     let turn = following(former.turn);

@@ -1,6 +1,6 @@
 ghost use Rattle.std.specs.Prelude.{is_err, ◌≡◌, ◌≢◌, ◌≤◌, ◌+◌, ◌^◌, ℕ, length, IsTrue};
 ghost use Rattle.zb_outside.specs.Counts.{Touches};
-ghost use Rattle.zb_outside.specs.Runs.{IsSettled};
+ghost use Rattle.zb_outside.specs.Runs.{IsSettled, SparesOthers};
 ghost use Rattle.zb_cell.specs.Set.{SetTold};
 ghost use Rattle.zb_slot_map.specs.Changing.{IsKept};
 ghost use Rattle.zb_slots.specs.Slots.{slot_place};
@@ -75,6 +75,7 @@ fn set_super<B: Bay>(
 ) -> Result<(), Failed>
     requires platter { platter ≤ 255 }
     ensures told { IsTrue B.tells → IsSettled platter (B.meaning bay.old).now → 128 ≤ length ((B.meaning bay.old).now.seen platter) → SetTold platter 0 (super_text geo.now server.0 fence) result (B.meaning bay.old) (B.meaning bay.new) }
+    ensures others { IsTrue B.tells → SparesOthers platter (B.meaning bay.old) (B.meaning bay.new) }
     ensures touches { Touches B.counts B.follows platter 3 (is_err result) bay.old bay.new }
 {
     let payload = spell_super(geo, server, fence);
@@ -96,6 +97,7 @@ pub fn fence_at<B: Bay>(
 ) -> Result<(), Failed>
     requires platter { platter ≤ 255 }
     ensures told { IsTrue B.tells → IsKept geo.now platter (B.meaning bay.old).now → FenceTold geo.now platter (super_text geo.now server.0 fence) result (B.meaning bay.old) (B.meaning bay.new) }
+    ensures others { IsTrue B.tells → SparesOthers platter (B.meaning bay.old) (B.meaning bay.new) }
     ensures touches { Touches B.counts B.follows platter 3 (is_err result) bay.old bay.new }
 {
     set_super(bay, geo, platter, server, fence)

@@ -1,6 +1,28 @@
 -- Numbers of four bytes each, one behind the other.
-use Rattle.std.proofs.Common.{◌≡◌, ◌≢◌, ◌⊎◌, inl, inr, ℕ, zero, suc, ◌+◌, ◌*◌, ◌/◌, ◌%◌, ◌^◌, ◌<◌, ◌≤◌, List, [], ◌∷◌, length, slice_index, slice_set, refl, ◌∙◌, ap, arith, get_or-set_other, get_or-set_same, length-set}
+use Rattle.std.proofs.Common.{◌≡◌, ◌≢◌, ◌⊎◌, inl, inr, ℕ, zero, suc, ◌+◌, ◌*◌, ◌/◌, ◌%◌, ◌^◌, ◌<◌, ◌≤◌, List, [], ◌∷◌, length, slice_index, slice_set, refl, ◌∙◌, ap, arith, get_or-set_other, get_or-set_same, length-set, sym}
+use Rattle.byteorder.specs.Endian.{big_from}
+use Rattle.zb_cell.specs.Cell.{window}
 use Rattle.zb_slots.specs.Slots.{four_at, numbers_at}
+
+-- the four bytes of a number
+pub four_is : (f : ℕ → ℕ) (at : ℕ) → four_at f at ≡ ((f at * 256 + f (at + 1)) * 256 + f (at + 2)) * 256 + f (at + 3)
+unfolding window
+four_is f at =
+    let two : f (at + 1 + 1) ≡ f (at + 2) = ap f (omega arith) in
+    let three : f (at + 1 + 1 + 1) ≡ f (at + 3) = ap f (omega arith) in
+    omega (arith, two, three)
+
+pub four_ext : (f g : ℕ → ℕ) (a b : ℕ) → f a ≡ g b → f (a + 1) ≡ g (b + 1) → f (a + 2) ≡ g (b + 2) → f (a + 3) ≡ g (b + 3) → four_at f a ≡ four_at g b
+four_ext f g a b e0 e1 e2 e3 = four_is f a ∙ (λ i. ((e0 i * 256 + e1 i) * 256 + e2 i) * 256 + e3 i) ∙ sym (four_is g b)
+
+-- they are the number from their place on
+pub four_from : (xs : List ℕ) (at : ℕ) → four_at (slice_index xs) at ≡ big_from at 4 xs
+four_from xs at =
+    let one : slice_index xs (suc at) ≡ slice_index xs (at + 1) = ap (slice_index xs) (omega arith) in
+    let two : slice_index xs (suc (suc at)) ≡ slice_index xs (at + 2) = ap (slice_index xs) (omega arith) in
+    let three : slice_index xs (suc (suc (suc at))) ≡ slice_index xs (at + 3) = ap (slice_index xs) (omega arith) in
+    let is = four_is (slice_index xs) at in
+    omega (arith, is, one, two, three)
 
 pub numbers_are : (f : ℕ → ℕ) (xs : List ℕ) (at : ℕ) → ((k : ℕ) → k < length xs → four_at f (at + 4 * k) ≡ slice_index xs k) → numbers_at f at (length xs) ≡ xs
 numbers_are f [] at same = refl
@@ -45,20 +67,19 @@ module _ (xs : List ℕ) (at a b c d : ℕ) where
       let e1 : slice_index four_set (at + 1) ≡ b = put_other three (at + 3) (at + 1) d _ (omega arith) (put_other two (at + 2) (at + 1) c _ (omega arith) (put_same one (at + 1) b (omega (arith, l1)))) in
       let e2 : slice_index four_set (at + 2) ≡ c = put_other three (at + 3) (at + 2) d _ (omega arith) (put_same two (at + 2) c (omega (arith, l1, l2))) in
       let e3 : slice_index four_set (at + 3) ≡ d = put_same three (at + 3) d (omega (arith, l1, l2, l3)) in
-      λ i. ((e0 i * 256 + e1 i) * 256 + e2 i) * 256 + e3 i
+      four_is (slice_index four_set) at ∙ (λ i. ((e0 i * 256 + e1 i) * 256 + e2 i) * 256 + e3 i)
 
   pub four_kept : (j : ℕ) → j + 4 ≤ at → four_at (slice_index four_set) j ≡ four_at (slice_index xs) j
   four_kept j le =
       let e : (i : ℕ) → i < at → slice_index four_set i ≡ slice_index xs i = λ i lt. four_elsewhere i (inl lt) in
-      λ i. ((e j (omega arith) i * 256 + e (j + 1) (omega arith) i) * 256 + e (j + 2) (omega arith) i) * 256 + e (j + 3) (omega arith) i
+      four_ext (slice_index four_set) (slice_index xs) j j (e j (omega arith)) (e (j + 1) (omega arith)) (e (j + 2) (omega arith)) (e (j + 3) (omega arith))
 
 pub digits : (x : ℕ) → x < 2 ^ 32 → ((x / 16777216 % 256 * 256 + x / 65536 % 256) * 256 + x / 256 % 256) * 256 + x % 256 ≡ x
 digits x lt = omega arith
 
-pub numbers_ext : (f g : ℕ → ℕ) (at m : ℕ) → ((i : ℕ) → i < at + 4 * m → f i ≡ g i) → numbers_at f at m ≡ numbers_at g at m
+pub numbers_ext : (f g : ℕ → ℕ) (at m : ℕ) → ((i : ℕ) → at ≤ i → i < at + 4 * m → f i ≡ g i) → numbers_at f at m ≡ numbers_at g at m
 numbers_ext f g at zero same = refl
 numbers_ext f g at (suc m) same =
-    let four : four_at f at ≡ four_at g at =
-    λ i. ((same at (omega arith) i * 256 + same (at + 1) (omega arith) i) * 256 + same (at + 2) (omega arith) i) * 256 + same (at + 3) (omega arith) i in
-    let rest : numbers_at f (at + 4) m ≡ numbers_at g (at + 4) m = numbers_ext f g (at + 4) m (λ i lt. same i (omega arith)) in
+    let four : four_at f at ≡ four_at g at = four_ext f g at at (same at (omega arith) (omega arith)) (same (at + 1) (omega arith) (omega arith)) (same (at + 2) (omega arith) (omega arith)) (same (at + 3) (omega arith) (omega arith)) in
+    let rest : numbers_at f (at + 4) m ≡ numbers_at g (at + 4) m = numbers_ext f g (at + 4) m (λ i le lt. same i (omega arith) (omega arith)) in
     λ i. four i ∷ rest i

@@ -1,5 +1,5 @@
 -- On which bytes a slot depends.
-use Rattle.std.proofs.Common.{◌≡◌, ◌≢◌, ◌⊎◌, inl, inr, ℕ, zero, suc, ◌+◌, ◌-◌, ◌*◌, ◌<◌, ◌≤◌, ◌==◌, nat_lt, nat_le, ◌&&◌, Bool, true, false, if◌then◌else◌, List, ◌∷◌, slice_index, Option, None, Some, refl, ◌∙◌, ap, arith}
+use Rattle.std.proofs.Common.{◌≡◌, ◌≢◌, ◌⊎◌, inl, inr, ℕ, ◌+◌, ◌-◌, ◌*◌, ◌<◌, ◌≤◌, ◌==◌, nat_lt, nat_le, ◌&&◌, Bool, true, false, if◌then◌else◌, List, slice_index, Option, None, Some, refl, ◌∙◌, ap, arith}
 use Rattle.std.proofs.lemmas.Bool.{cases_lt}
 use Rattle.std.proofs.lemmas.Bool.Decides.{nat_tests}
 use Rattle.std.proofs.Math.Nat.{mul-le-mul_right}
@@ -11,16 +11,9 @@ use Rattle.zb_holding.specs.Fragments.{share_fragment, parity_fragment}
 use Rattle.zb_slots.specs.declared.header.Header.{Header}
 use Rattle.zb_slots.specs.declared.header.Header.TheVariants.{Free, Share, Parity}
 use Rattle.zb_slots.specs.Headers.{judged, name_in}
-use Rattle.zb_slots.specs.Slots.{full_slot, four_at, numbers_at, shown, header_in, slot_in, slot_place}
+use Rattle.zb_slots.specs.Slots.{full_slot, numbers_at, shown, header_in, slot_in, slot_place}
 use Rattle.zb_slots.specs.Laws.{DependsOnItsBytes, LeavesOthers}
-
-pub numbers_ext : (f g : ℕ → ℕ) (at m : ℕ) → ((i : ℕ) → at ≤ i → i < at + 4 * m → f i ≡ g i) → numbers_at f at m ≡ numbers_at g at m
-numbers_ext f g at zero same = refl
-numbers_ext f g at (suc m) same =
-    let four : four_at f at ≡ four_at g at =
-    λ i. ((same at (omega arith) (omega arith) i * 256 + same (at + 1) (omega arith) (omega arith) i) * 256 + same (at + 2) (omega arith) (omega arith) i) * 256 + same (at + 3) (omega arith) (omega arith) i in
-    let rest : numbers_at f (at + 4) m ≡ numbers_at g (at + 4) m = numbers_ext f g (at + 4) m (λ i le lt. same i (omega arith) (omega arith)) in
-    λ i. four i ∷ rest i
+use Rattle.zb_slots.proofs.Numbers.{numbers_ext}
 
 -- up to where the bytes of a slot with this header count
 abbrev pub counted_to : Option Header → ℕ

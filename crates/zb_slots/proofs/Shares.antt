@@ -13,6 +13,7 @@ use Rattle.zb_holding.specs.Fragments.{share_fragment}
 use Rattle.zb_slots.specs.declared.header.Header.{Header}
 use Rattle.zb_slots.specs.declared.header.Header.TheVariants.{Free, Share, Parity}
 use Rattle.zb_slots.specs.Headers.{header_text}
+use Rattle.zb_slots.proofs.Numbers.{four_ext}
 use Rattle.zb_slots.specs.Slots.{Slot, Stored, bad_slot, free_slot, full_slot, four_at, numbers_at, shown, header_in, slot_of}
 use Rattle.zb_slots.specs.Area.{lengths_in}
 use Rattle.zb_slots.specs.Changing.{share_slot, parity_slot, SlotTold}
@@ -55,8 +56,7 @@ numbers_moved f g a b zero same = refl
 numbers_moved f g a b (suc m) same =
     let here : (i : ℕ) → i < 4 → f (a + i) ≡ g (b + i) = λ i lt. same i (omega arith) in
     let one : f a ≡ g b = ap f (omega arith) ∙ here 0 (omega arith) ∙ ap g (omega arith) in
-    let four : four_at f a ≡ four_at g b =
-    λ i. ((one i * 256 + here 1 (omega arith) i) * 256 + here 2 (omega arith) i) * 256 + here 3 (omega arith) i in
+    let four : four_at f a ≡ four_at g b = four_ext f g a b one (here 1 (omega arith)) (here 2 (omega arith)) (here 3 (omega arith)) in
     let rest : numbers_at f (a + 4) m ≡ numbers_at g (b + 4) m = numbers_moved f g (a + 4) (b + 4) m (λ i lt. ap f (omega arith) ∙ same (4 + i) (omega arith) ∙ ap g (omega arith)) in
     λ i. four i ∷ rest i
 

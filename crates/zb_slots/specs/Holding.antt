@@ -1,5 +1,5 @@
 -- What slots hold under names, and how many are free.
-use Rattle.std.specs.Prelude.{◌≡◌, ◌≢◌, ◌⊎◌, ℕ, zero, suc, ◌+◌, ◌<◌, ◌≤◌, ◌==◌, if◌then◌else◌, List, length, Option, None, Some}
+use Rattle.std.specs.Prelude.{◌≡◌, ◌≢◌, ◌⊎◌, ℕ, zero, suc, ◌+◌, ◌<◌, ◌≤◌, ◌==◌, if◌then◌else◌, Bool, true, false, IsTrue, List, length, Option, None, Some}
 use Rattle.zb_cell.specs.Cell.{following}
 use Rattle.zb_types.specs.declared.geometry.Geometry.{Geometry}
 use Rattle.zb_types.specs.declared.ids.FragId.{FragId}
@@ -48,15 +48,15 @@ free_count slots (suc n) = free_count slots n + free_in (slots n)
 abbrev pub free_slots : (n f slots : ℕ) → List ℕ → ℕ
 free_slots n f slots image = free_count (slots_of n f image) slots
 
--- it is a parity
-abbrev pub IsParity : Fragment → Type 0
-IsParity (share_fragment bytes) = ⊥
-IsParity (parity_fragment lengths bytes) = Unit {0}
+-- is it a parity?
+abbrev pub is_parity : Fragment → Bool
+is_parity (share_fragment bytes) = false
+is_parity (parity_fragment lengths bytes) = true
 
 -- slots i and j alone, of the first n, hold this name, both of them a parity, with different turns
 pub record AreTwoParities (slots : ℕ → Slot) (n i j : ℕ) (a b : Stored) : Type 0 where
-  pub first : IsParity a.fragment
-  pub other : IsParity b.fragment
+  pub first : IsTrue (is_parity a.fragment)
+  pub other : IsTrue (is_parity b.fragment)
   pub turns : a.turn ≢ b.turn
   pub alone : (k : ℕ) → k < n → k ≢ i → k ≢ j → named a.id (slots k) ≡ None
 

@@ -1,5 +1,6 @@
 -- What the slots of a server's platter hold: a slot has its header cell of 128 bytes, the lengths area of 64 and the body.
 use Rattle.std.specs.Prelude.{ℕ, zero, suc, ◌+◌, ◌-◌, ◌*◌, List, [], ◌∷◌, Option, None, Some}
+use Rattle.byteorder.specs.Endian.{big_number}
 use Rattle.zb_cell.specs.Cell.{window, value_of, bytes_at}
 use Rattle.zb_types.specs.declared.geometry.Geometry.{Geometry}
 use Rattle.zb_types.specs.declared.ids.FragId.{FragId}
@@ -24,9 +25,9 @@ pub data Slot : Type 0 where
   free_slot : Slot
   full_slot : Stored → Slot
 
--- a number of four bytes
+-- the number in the four bytes from a place on
 abbrev pub four_at : (ℕ → ℕ) → ℕ → ℕ
-four_at byte at = ((byte at * 256 + byte (at + 1)) * 256 + byte (at + 2)) * 256 + byte (at + 3)
+four_at byte at = big_number 4 (window byte at 4)
 
 -- m numbers of four bytes each
 abbrev pub numbers_at : (ℕ → ℕ) → (at m : ℕ) → List ℕ

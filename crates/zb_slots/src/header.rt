@@ -1,7 +1,7 @@
-ghost use Rattle.std.specs.Prelude.{◌≡◌, ◌≤◌, ◌+◌};
-ghost use Rattle.byteorder.specs.Endian.{big_from};
+ghost use Rattle.std.specs.Prelude.{◌≡◌};
 ghost use Rattle.zb_slots.specs.Headers.{said, header_text, name_in, payload_text, Fit, HasRoom};
 
+use crate::number::{u32_at, u64_at};
 use zb_types::{FragId, Geometry, LogId};
 
 /// What the header of a slot says: that it is free, or the name and the length in bytes of what it holds, and of a
@@ -39,26 +39,12 @@ pub fn spell_header(header: &Header) -> [u8; 40]
     }
 }
 
-fn four_from(payload: &[u8; 40], at: usize) -> u32
-    requires { at + 4 ≤ 40 }
-    ensures { result ≡ big_from at 4 payload.now }
-{
-    u32::from_be_bytes([
-        payload[at],
-        payload[at + 1],
-        payload[at + 2],
-        payload[at + 3],
-    ])
-}
-
 fn name_of(payload: &[u8; 40]) -> FragId
     ensures { result ≡ name_in payload.now }
 {
-    let high = u64::from(four_from(payload, 4));
-    let low = u64::from(four_from(payload, 8));
     FragId {
-        log: LogId(four_from(payload, 0)),
-        stripe: high * 0x1_0000_0000 + low,
+        log: LogId(u32_at(payload, 0)),
+        stripe: u64_at(payload, 4),
         index: payload[12],
     }
 }
@@ -70,7 +56,7 @@ pub fn read_header(geo: &Geometry, payload: &[u8; 40]) -> Option<Header>
 {
     let id = name_of(payload);
     let turn = payload[14];
-    let len = four_from(payload, 16);
+    let len = u32_at(payload, 16);
     let index = u32::from(id.index);
     match payload[13] {
         0 if index == 0 && turn == 0 && len == 0 => Some(Header::Free),

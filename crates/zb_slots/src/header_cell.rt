@@ -1,6 +1,6 @@
 ghost use Rattle.std.specs.Prelude.{is_err, ◌≡◌, ◌≢◌, ◌≤◌, ◌+◌, ◌^◌, ℕ, length, IsTrue, IfOk, Some};
 ghost use Rattle.zb_outside.specs.Counts.{Touches};
-ghost use Rattle.zb_outside.specs.Runs.{IsSettled, Held};
+ghost use Rattle.zb_outside.specs.Runs.{IsSettled, Held, SparesOthers};
 ghost use Rattle.zb_cell.specs.Cell.{value};
 ghost use Rattle.zb_cell.specs.Set.{SetTold};
 ghost use Rattle.zb_slots.specs.Headers.{header_text, HasRoom, MayStand};
@@ -47,6 +47,7 @@ pub fn set_header<B: Bay>(
     requires range { place + 128 ≤ 2 ^ 63 }
     ensures told { IsTrue B.tells → IsSettled platter (B.meaning bay.old).now → place + 128 ≤ length ((B.meaning bay.old).now.seen platter) → SetTold platter place (header_text header.now) result (B.meaning bay.old) (B.meaning bay.new) }
     ensures room { HasRoom header.now }
+    ensures others { IsTrue B.tells → SparesOthers platter (B.meaning bay.old) (B.meaning bay.new) }
     ensures touches { Touches B.counts B.follows platter 3 (is_err result) bay.old bay.new }
 {
     let payload = spell_header(header);

@@ -2,12 +2,13 @@ ghost use Rattle.std.specs.Prelude.{◌≡◌, ◌≤◌, ◌<◌, ◌+◌, ◌-
 ghost use Rattle.zb_outside.specs.Counts.{Touches};
 ghost use Rattle.zb_types.specs.declared.ids.FragId.{FragId};
 ghost use Rattle.zb_cell.specs.Cell.{bytes_at};
-ghost use Rattle.zb_slots.specs.Slots.{four_at, numbers_at};
+ghost use Rattle.zb_slots.specs.Slots.{numbers_at};
 ghost use Rattle.zb_slots.specs.Changing.{parity_slot};
 ghost use Rattle.zb_slots.specs.Slots.{slots_in};
 ghost use Rattle.zb_slots.specs.Reading.{LeftAlone, is_stopped};
 
 use crate::body::read_bytes;
+use crate::number::u32_at;
 use crate::place::place_of;
 use crate::read_fault::ReadFault;
 use std::alloc::Global;
@@ -21,13 +22,6 @@ pub struct ParityRange {
     pub bytes: ByteList,
 }
 
-fn four_from(area: &[u8; 64], at: usize) -> u32
-    requires { at + 4 ≤ 64 }
-    ensures { result ≡ four_at (slice_index area.now) at }
-{
-    u32::from_be_bytes([area[at], area[at + 1], area[at + 2], area[at + 3]])
-}
-
 // The first numbers of an area, of four bytes each.
 fn numbers_from(alloc: Global, area: &[u8; 64], count: usize) -> Mem<Vec<u32>>
     requires { count ≤ 16 }
@@ -35,7 +29,7 @@ fn numbers_from(alloc: Global, area: &[u8; 64], count: usize) -> Mem<Vec<u32>>
 {
     let mut numbers = Vec::new(alloc);
     for i in 0..count {
-        numbers.push(four_from(area, 4 * i))?;
+        numbers.push(u32_at(area, 4 * i))?;
     }
     Ok(numbers)
 }

@@ -1,6 +1,6 @@
 ghost use Rattle.std.specs.Prelude.{is_err, ◌≡◌, ◌≢◌, ◌≤◌, ◌<◌, ◌+◌, ◌-◌, ◌^◌, ◌++◌, ℕ, List, drop, length, IsTrue};
 ghost use Rattle.zb_outside.specs.Counts.{Touches};
-ghost use Rattle.zb_outside.specs.Runs.{IsSettled};
+ghost use Rattle.zb_outside.specs.Runs.{SparesOthers};
 ghost use Rattle.zb_slots.specs.Slots.{free_slot, slot_of};
 ghost use Rattle.zb_slots.specs.Area.{lengths_in};
 ghost use Rattle.zb_slots.specs.Changing.{share_slot, parity_slot, IsReady, SlotTold};
@@ -24,6 +24,7 @@ fn fill<B: Bay>(
     requires range { place + at + length bytes.now ≤ 2 ^ 63 }
     requires cell { 128 ≤ at }
     ensures told { IsTrue B.tells → (n f : ℕ) → IsReady platter place f (B.meaning bay.old).now → MayFill n f place at bytes.now header.now ((B.meaning bay.old).now.seen platter) → FillTold n f platter place at bytes.now header.now result (B.meaning bay.old) (B.meaning bay.new) }
+    ensures others { IsTrue B.tells → SparesOthers platter (B.meaning bay.old) (B.meaning bay.new) }
     ensures touches { Touches B.counts B.follows platter 4 (is_err result) bay.old bay.new }
 {
     write_synced(bay, platter, place + at, bytes)?;
@@ -47,6 +48,7 @@ pub fn store<B: Bay>(
     requires share { id.index + 1 < geo.now.servers }
     requires room { length bytes.now ≤ geo.now.fragment }
     ensures told { IsTrue B.tells → IsReady platter place geo.now.fragment (B.meaning bay.old).now → slot_of geo.now.servers geo.now.fragment ((B.meaning bay.old).now.seen platter) place ≡ free_slot → SlotTold geo.now.servers geo.now.fragment platter place (share_slot id bytes.now) result (B.meaning bay.old) (B.meaning bay.new) }
+    ensures others { IsTrue B.tells → SparesOthers platter (B.meaning bay.old) (B.meaning bay.new) }
     ensures touches { Touches B.counts B.follows platter 4 (is_err result) bay.old bay.new }
 {
     let header = Header::Share {
@@ -74,6 +76,7 @@ pub fn append<B: Bay>(
     requires share { id.index + 1 < geo.now.servers }
     requires room { len + length bytes.now ≤ geo.now.fragment }
     ensures told { IsTrue B.tells → IsReady platter place geo.now.fragment (B.meaning bay.old).now → (stands : List ℕ) → length stands ≡ len → slot_of geo.now.servers geo.now.fragment ((B.meaning bay.old).now.seen platter) place ≡ share_slot id stands → SlotTold geo.now.servers geo.now.fragment platter place (share_slot id (stands ++ bytes.now)) result (B.meaning bay.old) (B.meaning bay.new) }
+    ensures others { IsTrue B.tells → SparesOthers platter (B.meaning bay.old) (B.meaning bay.new) }
     ensures touches { Touches B.counts B.follows platter 4 (is_err result) bay.old bay.new }
 {
     let header = Header::Share {
@@ -103,6 +106,7 @@ pub fn store_parity<B: Bay>(
     requires lengths { 64 ≤ length area.now }
     requires room { length area.now ≤ 64 + geo.now.fragment }
     ensures told { IsTrue B.tells → IsReady platter place geo.now.fragment (B.meaning bay.old).now → slot_of geo.now.servers geo.now.fragment ((B.meaning bay.old).now.seen platter) place ≡ free_slot → SlotTold geo.now.servers geo.now.fragment platter place (parity_slot id turn (lengths_in (geo.now.servers - 1) area.now) (drop 64 area.now)) result (B.meaning bay.old) (B.meaning bay.new) }
+    ensures others { IsTrue B.tells → SparesOthers platter (B.meaning bay.old) (B.meaning bay.new) }
     ensures touches { Touches B.counts B.follows platter 4 (is_err result) bay.old bay.new }
 {
     let header = Header::Parity {
@@ -120,6 +124,7 @@ pub fn free<B: Bay>(bay: &mut B, geo: &Geometry, platter: usize, place: u64) -> 
     requires platter { platter ≤ 255 }
     requires range { place + (192 + geo.now.fragment) ≤ 2 ^ 63 }
     ensures told { IsTrue B.tells → IsReady platter place geo.now.fragment (B.meaning bay.old).now → SlotTold geo.now.servers geo.now.fragment platter place free_slot result (B.meaning bay.old) (B.meaning bay.new) }
+    ensures others { IsTrue B.tells → SparesOthers platter (B.meaning bay.old) (B.meaning bay.new) }
     ensures touches { Touches B.counts B.follows platter 3 (is_err result) bay.old bay.new }
 {
     set_header(bay, platter, place, &Header::Free)

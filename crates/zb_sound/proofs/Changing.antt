@@ -14,15 +14,15 @@ use Rattle.zb_holding.specs.Placing.{frag_id, server_of}
 use Rattle.zb_stripe_laws.specs.PartAtWork.{HasNoEmptyShare}
 use Rattle.zb_entries.specs.declared.entry.Entry.TheVariants.{Attach, Mark, Retire}
 use Rattle.zb_tables.specs.Tables.{Tables, Contents}
-use Rattle.zb_tables.specs.Fold.{attached, after_retire}
-use Rattle.zb_tables.specs.Replay.{Platter}
-use Rattle.zb_tables.specs.Taking.{Sizes, IsServer}
+use Rattle.zb_tables.specs.Fold.{attached, after_retire, with_members}
+use Rattle.zb_tables.specs.Replay.{Platter, with_entry}
+use Rattle.zb_tables.specs.Checkpoint.{AreTables}
+use Rattle.zb_tables.specs.Taking.{Sizes, IsServer, CanTake, no_batch}
 use Rattle.zb_recovery.specs.Missing.{Servers, MayMiss, OneUnfit, is_unfit, names_server}
 use Rattle.zb_recovery.specs.Agreeing.{StripeAgrees, ViewAgrees}
 use Rattle.zb_tables.proofs.Holding.{held_at-retired_other}
 use Rattle.zb_sound.specs.Standing.{StandFor, HoldSome, seen}
-use Rattle.zb_sound.specs.Committing.{with_entry}
-use Rattle.zb_sound.specs.Changing.{no_batch, after_mark, CanTake, OthersFit, OthersSame}
+use Rattle.zb_sound.specs.Changing.{OthersFit, OthersSame}
 use Rattle.zb_tables.proofs.Retiring.{Less, both_points, gone}
 use Rattle.zb_tables.proofs.Taken.{taken_then}
 use Rattle.zb_sound.proofs.Delivering.{stripe_same}
@@ -60,6 +60,7 @@ module _ (z : Sizes) (contents : Contents) (p : Platter) (st : Servers) (T : Tab
           points = says.points;
           ends = says.ends;
           hold_some = says.hold_some;
+          spelled = says.spelled;
         };
         agree = record { one_unfit = s.agree.one_unfit; agree = s.agree.agree };
         none_empty = s.none_empty;
@@ -68,7 +69,7 @@ module _ (z : Sizes) (contents : Contents) (p : Platter) (st : Servers) (T : Tab
   -- other members, where the stripes hold for whichever may then be missing
   pub mark_keeps : (members : Members) → CanTake z p T (Mark members) → OneUnfit z.servers members st.blank
       → ((x : Option ServerId) → MayMiss z.servers members st.blank x → AllAgree st x T.held)
-      → StandFor z contents (with_entry p (Mark members)) st (after_mark T members) tree
+      → StandFor z contents (with_entry p (Mark members)) st (with_members T members) tree
   mark_keeps members can one stand =
       let says = s.says in
       record {
@@ -78,6 +79,7 @@ module _ (z : Sizes) (contents : Contents) (p : Platter) (st : Servers) (T : Tab
           points = says.points;
           ends = says.ends;
           hold_some = says.hold_some;
+          spelled = says.spelled;
         };
         agree = record { one_unfit = one; agree = stand };
         none_empty = s.none_empty;
@@ -85,7 +87,7 @@ module _ (z : Sizes) (contents : Contents) (p : Platter) (st : Servers) (T : Tab
 
   -- a server is marked out or mending where all others are fit
   pub mark_one_keeps : (members : Members) (a : ServerId) → CanTake z p T (Mark members) → IsServer z.servers a → (members.state ≡ Out a) ⊎ (members.state ≡ Mending a) → OthersFit z T.members st a
-      → StandFor z contents (with_entry p (Mark members)) st (after_mark T members) tree
+      → StandFor z contents (with_entry p (Mark members)) st (with_members T members) tree
   mark_one_keeps members a can is state others =
       let named = names_only members.state a state in
       let only : (t : ServerId) → IsServer z.servers t → is_unfit members st.blank t ≡ true → t ≡ a = λ t server unfit.
@@ -121,17 +123,18 @@ module _ (z : Sizes) (contents : Contents) (p : Platter) (st : Servers) (T : Tab
             points = both_points T.held log stripe T.files can.0 says.points;
             ends = says.ends;
             hold_some = less_some says.hold_some;
+            spelled = says.spelled;
           };
           agree = record { one_unfit = s.agree.one_unfit; agree = λ x may. less_stand x (s.agree.agree x may) };
           none_empty = s.none_empty;
         }
 
   -- a checkpoint of the tables
-  pub checkpoint_keeps : StandFor z contents (record { tables = T; entries = [] }) st T tree
-  checkpoint_keeps =
+  pub checkpoint_keeps : AreTables z T → StandFor z contents (record { tables = T; entries = [] }) st T tree
+  checkpoint_keeps are =
       let says = s.says in
       record {
-        says = record { taken = refl; shows = says.shows; points = says.points; ends = says.ends; hold_some = says.hold_some };
+        says = record { taken = refl; shows = says.shows; points = says.points; ends = says.ends; hold_some = says.hold_some; spelled = are };
         agree = s.agree;
         none_empty = s.none_empty;
       }

@@ -14,7 +14,7 @@ use Rattle.zb_tables.specs.Tables.{Tables, Contents, EachFile, EndsInFile}
 use Rattle.zb_tables.specs.Fold.{Shelf, held_with_all, shelf_of, done_ops, committed, after_batch, folded, all_moved}
 use Rattle.zb_tables.specs.Shown.{shelf_tree, tree_through, replies_through}
 use Rattle.zb_tables.specs.Pointing.{AllCopies}
-use Rattle.zb_tables.specs.Replay.{Platter}
+use Rattle.zb_tables.specs.Replay.{Platter, with_entry}
 use Rattle.zb_tables.specs.Taking.{Sizes}
 use Rattle.zb_tables.proofs.Ops.{ops_show}
 use Rattle.zb_tables.proofs.Cleans.{clean_shows}
@@ -24,7 +24,7 @@ use Rattle.zb_tables.proofs.Holding.{with_all_on}
 use Rattle.zb_tables.proofs.Pointers.{points_on, ops_points}
 use Rattle.zb_sound.specs.Standing.{StandFor}
 use Rattle.zb_sound.proofs.Raising.{with_all_some}
-use Rattle.zb_sound.specs.Committing.{with_entry, IsFlushed, IsOfUpdates}
+use Rattle.zb_sound.specs.Committing.{IsFlushed, IsOfUpdates}
 use Rattle.zb_tables.proofs.Taken.{same_taken, taken_then, taken_entries}
 
 module _ (z : Sizes) (contents new : Contents) (p : Platter) (st : Servers) (log : LogId) (number generation : ℕ) (pieces : List Piece) (batch : Batch) where
@@ -59,6 +59,7 @@ module _ (z : Sizes) (contents new : Contents) (p : Platter) (st : Servers) (log
             points = ops_points held z.block batch.ops (shelf_of t) after (points_on t.held held on t.files says.points) f.lie done;
             ends = ends;
             hold_some = with_all_some z log t.next_entry pieces t.held f.may.within says.hold_some;
+            spelled = says.spelled;
           };
           agree = record { one_unfit = s.agree.one_unfit; agree = f.stand };
           none_empty = s.none_empty;

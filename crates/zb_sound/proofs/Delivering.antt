@@ -29,10 +29,11 @@ use Rattle.zb_stripe_laws.proofs.Plans.{begins, goes_on, holds, ends}
 use Rattle.zb_tables.specs.Tables.{Tables, held_at, Contents}
 use Rattle.zb_tables.specs.Replay.{Platter}
 use Rattle.zb_tables.specs.Taking.{Sizes}
-use Rattle.zb_recovery.specs.Missing.{Servers, MayMiss}
+use Rattle.zb_recovery.specs.Missing.{Servers}
 use Rattle.zb_recovery.specs.Agreeing.{StripeAgrees, ViewAgrees}
-use Rattle.zb_sound.specs.Standing.{StandFor, seen}
-use Rattle.zb_sound.specs.Delivering.{after_asked, PartFits, FlushBegins, FlushWorks, WorksIn, FlushStands}
+use Rattle.zb_sound.specs.Standing.{StandFor, HoldSome, seen}
+use Rattle.zb_sound.specs.Delivering.{after_asked, allowed, any_one, FlushBegins, FlushWorks, Missing, Misses, PartFits, PartsStand, WorksIn}
+use Rattle.zb_sound.specs.Staying.{LeavesParts}
 use Rattle.zb_sound.proofs.Listed.{Among, among_at, at_part, find_part}
 use Rattle.zb_sound.proofs.Missing.{some_may}
 
@@ -86,59 +87,77 @@ module _ (z : Sizes) (contents : Contents) (out : Option ServerId) (class : Clas
       (silent_part z.servers z.fragment out class flush.log p (frag_id l t k) (inr (λ e. a.0 (sym e)))) (silent_plan l t k ps (inr a.1))
 
   -- the first requests may be asked
-  pub flush_begins : (st : Servers) (tables : Tables) → FlushBegins z contents st tables out flush → FlushWorks z contents st tables out class flush Plan
-  flush_begins st tables b = record {
+  pub flush_begins : (st : Servers) (held : List HeldUse) (who : Missing) → FlushBegins z contents st held who out flush → FlushWorks z contents st held who out class flush Plan
+  flush_begins st held who b = record {
     fits = b.fits;
     each = λ x may. let at = b.each x may in record { spared = at.spared; work = begins (seen z st x) out class flush b.differ at.begin };
   }
 
-  module _ (p : Platter) (st : Servers) (tables : Tables) (tree : Tree) (s : StandFor z contents p st tables tree)
-      (left : Requests) (r : ServerId × Request) (is : slice_get left 0 ≡ Some r) (w : FlushWorks z contents st tables out class flush left) where
+  module _ (st : Servers) (held : List HeldUse) (who : Missing)
+      (left : Requests) (r : ServerId × Request) (is : slice_get left 0 ≡ Some r) (w : FlushWorks z contents st held who out class flush left) where
     abbrev New : Servers
     New = after_asked st r
 
     abbrev Left : Requests
     Left = left_after left told.Done
 
-    pub next_works : FlushWorks z contents New tables out class flush Left
+    -- a request leaves which servers may be missing
+    misses : (of : Missing) (x : Option ServerId) → Misses z.servers New of x → Misses z.servers st of x
+    misses (allowed members) x may = may
+    misses any_one x may = may
+
+    misses_still : (of : Missing) (x : Option ServerId) → Misses z.servers st of x → Misses z.servers New of x
+    misses_still (allowed members) x may = may
+    misses_still any_one x may = may
+
+    pub next_works : FlushWorks z contents New held who out class flush Left
     next_works = record {
       fits = w.fits;
-      each = λ x may. let at = w.each x may in record { spared = at.spared; work = goes_on (seen z st x) out class flush left r is at.work };
+      each = λ x may. let at = w.each x (misses who x may) in record { spared = at.spared; work = goes_on (seen z st x) out class flush left r is at.work };
     }
 
-    module _ (x : Option ServerId) (may : MayMiss z.servers tables.members st.blank x) where
+    module _ (x : Option ServerId) (may : Misses z.servers st who x) where
       abbrev Now : WorksIn (seen z New x) out class flush Left
-      Now = next_works.each x may
+      Now = next_works.each x (misses_still who x may)
 
       other_same : (l : LogId) (t k : ℕ) → (l.0 ≢ flush.log.0) ⊎ AreElsewhere t flush.parts → standing z.servers New.maps l t k ≡ standing z.servers st.maps l t k
       other_same l t k a =
           let work = (w.each x may).work in
           silent_leaves z.servers st.maps r l t k (silent_behind (frag_id l t k) work.done left r (subst (Silent (frag_id l t k)) work.all (silent_plan l t k flush.parts a)) is)
 
-      own_agrees : (part : Part) → Among flush.parts part → (h : HeldUse) → held_at flush.log part.stripe tables.held ≡ Some h → 0 < h.end
+      own_agrees : (part : Part) → Among flush.parts part → (h : HeldUse) → held_at flush.log part.stripe held ≡ Some h → 0 < h.end
           → StripeAgrees (seen z New x) contents flush.log part.stripe h.end
       own_agrees part a h e some =
-          let fit = at_part flush.parts (PartFits z contents tables.held flush.log) part a w.fits in
+          let fit = at_part flush.parts (PartFits z contents held flush.log) part a w.fits in
           record {
             bytes = part.bytes;
             held = holds (seen z New x) out class flush Left Now.work a.before a.after part a.is h.end fit.writable Now.spared some (fit.before h e);
             first = sym (fit.same h e);
           }
 
-      pub next_agrees : ViewAgrees (seen z st x) contents tables.held → ViewAgrees (seen z New x) contents tables.held
-      next_agrees all l t h e = elim (cases_eq l.0 flush.log.0) as (λ _. StripeAgrees (seen z New x) contents l t h.end) [
+      pub next_agrees : HoldSome held → ViewAgrees (seen z st x) contents held → ViewAgrees (seen z New x) contents held
+      next_agrees hold_some all l t h e = elim (cases_eq l.0 flush.log.0) as (λ _. StripeAgrees (seen z New x) contents l t h.end) [
         | inr ne ↦ stripe_same z.servers z.fragment st.maps New.maps x contents l t h.end (λ k a. other_same l t k (inl ne)) (all l t h e)
         | inl same ↦ elim (find_part flush.parts t) as (λ _. StripeAgrees (seen z New x) contents l t h.end) [
           | inr away ↦ stripe_same z.servers z.fragment st.maps New.maps x contents l t h.end (λ k a. other_same l t k (inr away)) (all l t h e)
           | inl found ↦
               let el : l ≡ flush.log = ap (λ (n : ℕ). record { 0 = n }) same in
-              let some = s.says.hold_some l t h e in
-              let here = subst (λ (y : ℕ). held_at flush.log y tables.held ≡ Some h) (sym found.stripe_is) (subst (λ (m : LogId). held_at m t tables.held ≡ Some h) el e) in
+              let some = hold_some l t h e in
+              let here = subst (λ (y : ℕ). held_at flush.log y held ≡ Some h) (sym found.stripe_is) (subst (λ (m : LogId). held_at m t held ≡ Some h) el e) in
               subst (λ (m : LogId). StripeAgrees (seen z New x) contents m t h.end) (sym el)
               (subst (λ (y : ℕ). StripeAgrees (seen z New x) contents flush.log y h.end) found.stripe_is (own_agrees found.part found.among h here some))
         ]
       ]
 
+    -- what another log has stands as before
+    pub others_stand : (log : LogId) (parts : List Part) → log.0 ≢ flush.log.0 → LeavesParts z st New who who log parts
+    others_stand log parts ne = record {
+      fewer = λ x may. misses who x may;
+      same = λ x may i d l k a. other_same x (misses who x may) log (get_or parts i d).stripe k (inl ne);
+    }
+
+  module _ (p : Platter) (st : Servers) (tables : Tables) (tree : Tree) (s : StandFor z contents p st tables tree)
+      (left : Requests) (r : ServerId × Request) (is : slice_get left 0 ≡ Some r) (w : FlushWorks z contents st tables.held (allowed tables.members) out class flush left) where
     next_stores : StoresBytes r.1
     next_stores =
         let some = some_may z.servers tables.members st s.agree.one_unfit in
@@ -146,20 +165,20 @@ module _ (z : Sizes) (contents : Contents) (out : Option ServerId) (class : Clas
         plan_stores z.servers z.fragment out class flush.log flush.parts (length work.done) r
         (ap (λ (rs : Requests). slice_get rs (length work.done)) work.all ∙ get_behind work.done left ∙ is)
 
-    pub next_stands : StandFor z contents p New tables tree
+    pub next_stands : StandFor z contents p (after_asked st r) tables tree
     next_stands = record {
       says = s.says;
-      agree = record { one_unfit = s.agree.one_unfit; agree = λ x may. next_agrees x may (s.agree.agree x may) };
+      agree = record { one_unfit = s.agree.one_unfit; agree = λ x may. next_agrees st tables.held (allowed tables.members) left r is w x may s.says.hold_some (s.agree.agree x may) };
       none_empty = kept_by st.maps r next_stores s.none_empty;
     }
 
   -- with no requests left each part's stripe stands
-  pub flush_ends : (st : Servers) (tables : Tables) → FlushWorks z contents st tables out class flush [] → FlushStands z st tables.members flush
-  flush_ends st tables w x may i d l =
+  pub flush_ends : (st : Servers) (held : List HeldUse) (who : Missing) → FlushWorks z contents st held who out class flush [] → PartsStand z st who flush.log flush.parts
+  flush_ends st held who w x may i d l =
       let at = w.each x may in
       let part = get_or flush.parts i d in
       let a = among_at flush.parts i d l in
-      let fit = at_part flush.parts (PartFits z contents tables.held flush.log) part a w.fits in
+      let fit = at_part flush.parts (PartFits z contents held flush.log) part a w.fits in
       ends (seen z st x) out class flush [] at.work a.before a.after part a.is refl fit.writable at.spared
 
 -- a request about no held stripe leaves what stands

@@ -4,6 +4,7 @@ pub mod Delivering
 pub mod Staying
 pub mod Raising
 pub mod Rebasing
+pub mod Unheld
 pub mod Flushing
 pub mod Committing
 pub mod Changing

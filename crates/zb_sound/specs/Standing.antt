@@ -9,6 +9,7 @@ use Rattle.zb_stripe_laws.specs.PartAtWork.{HasNoEmptyShare}
 use Rattle.zb_tables.specs.Tables.{Tables, Contents, held_at, shown_tree, EachFile, EndsInFile, PointsIn}
 use Rattle.zb_tables.specs.Replay.{Platter}
 use Rattle.zb_tables.specs.Taking.{Sizes, AreTaken}
+use Rattle.zb_tables.specs.Checkpoint.{AreTables}
 use Rattle.zb_recovery.specs.Missing.{Servers}
 use Rattle.zb_recovery.specs.Agreeing.{ServersAgree}
 use Rattle.zb_recovery.specs.Recovered.{Recovers}
@@ -31,6 +32,8 @@ pub record Says (z : Sizes) (contents : Contents) (p : Platter) (tables : Tables
   -- no block reaches past its file's end
   pub ends : EachFile (EndsInFile z.block) tables.files
   pub hold_some : HoldSome tables.held
+  -- what the platter's checkpoint says is one
+  pub spelled : AreTables z p.tables
 
 -- The file manager's platter and the servers stand for these tables and a tree, whose bytes are those of the stripes'
 -- contents.

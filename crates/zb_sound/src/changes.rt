@@ -7,14 +7,14 @@ ghost use Rattle.zb_types.specs.Tree.{Tree};
 ghost use Rattle.zb_stripe_laws.specs.PartAtWork.{HasNoEmptyShare};
 ghost use Rattle.zb_entries.specs.declared.entry.Entry.TheVariants.{Attach, Mark, Retire};
 ghost use Rattle.zb_tables.specs.Tables.{Contents, SameIn, Tables};
-ghost use Rattle.zb_tables.specs.Fold.{after_retire, attached};
-ghost use Rattle.zb_tables.specs.Replay.{Platter};
-ghost use Rattle.zb_tables.specs.Taking.{IsServer, Sizes};
+ghost use Rattle.zb_tables.specs.Fold.{after_retire, attached, with_members};
+ghost use Rattle.zb_tables.specs.Replay.{Platter, with_entry};
+ghost use Rattle.zb_tables.specs.Taking.{CanTake, IsServer, Sizes};
+ghost use Rattle.zb_tables.specs.Checkpoint.{AreTables};
 ghost use Rattle.zb_recovery.specs.Missing.{Servers, is_unfit};
 ghost use Rattle.zb_recovery.specs.Agreeing.{ViewAgrees};
 ghost use Rattle.zb_sound.specs.Standing.{StandFor, seen};
-ghost use Rattle.zb_sound.specs.Committing.{with_entry};
-ghost use Rattle.zb_sound.specs.Changing.{CanTake, OthersFit, OthersSame, after_mark};
+ghost use Rattle.zb_sound.specs.Changing.{OthersFit, OthersSame};
 
 /// What stands for a tree does so with each contents that agree on what is committed.
 pub fn contents_may_grow()
@@ -34,13 +34,13 @@ pub fn changes_keep()
         → CanTake z p tables (Mark members)
         → IsServer z.servers a → (members.state ≡ Out a) ⊎ (members.state ≡ Mending a)
         → OthersFit z tables.members st a
-        → StandFor z contents (with_entry p (Mark members)) st (after_mark tables members) tree }
+        → StandFor z contents (with_entry p (Mark members)) st (with_members tables members) tree }
     ensures retire { (z : Sizes) (contents : Contents) (p : Platter) (st : Servers) (tables : Tables) (tree : Tree) (log : LogId) (stripe : ℕ)
         → StandFor z contents p st tables tree
         → CanTake z p tables (Retire log stripe)
         → StandFor z contents (with_entry p (Retire log stripe)) st (after_retire tables log stripe) tree }
     ensures checkpoint { (z : Sizes) (contents : Contents) (p : Platter) (st : Servers) (tables : Tables) (tree : Tree)
-        → StandFor z contents p st tables tree
+        → StandFor z contents p st tables tree → AreTables z tables
         → StandFor z contents (record { tables = tables; entries = [] }) st tables tree }
     ensures away { (z : Sizes) (contents : Contents) (p : Platter) (st new : Servers) (tables : Tables) (tree : Tree) (a : ServerId)
         → StandFor z contents p st tables tree
@@ -57,5 +57,5 @@ pub fn finish_keeps()
         → CanTake z p tables (Mark members)
         → members.state ≡ Whole → ((t : ServerId) → IsServer z.servers t → st.blank t ≡ false)
         → ((x : Option ServerId) → IfSome x (IsServer z.servers) → ViewAgrees (seen z st x) contents tables.held)
-        → StandFor z contents (with_entry p (Mark members)) st (after_mark tables members) tree }
+        → StandFor z contents (with_entry p (Mark members)) st (with_members tables members) tree }
 {}

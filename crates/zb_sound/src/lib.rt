@@ -10,5 +10,8 @@ mod recovery;
 
 pub use changes::{changes_keep, contents_may_grow, finish_keeps};
 pub use commits::{clean_leaves_tree, commit_may_be_cut_off, commit_takes_tree, flush_is_flushed};
-pub use flushes::{changes_leave_a_flush, flush_at_work, flush_stays, requests_beside_keep};
+pub use flushes::{
+    changes_leave_parts, flush_at_work, flush_stays, log_goes_on, parts_make_contents,
+    requests_beside_keep,
+};
 pub use recovery::{first_platters_stand, sound_recovers};

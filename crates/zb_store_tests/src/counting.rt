@@ -2,6 +2,7 @@ ghost use Rattle.std.specs.Prelude.{◌≡◌};
 
 use crate::system::system;
 use std::alloc::Global;
+use std::marker::Model;
 use std::test::Fail;
 use zb_devices::MemOutside;
 use zb_fragstore::FragStore;
@@ -57,7 +58,7 @@ impl<B: Bay> Bay for Counting<B> {
 }
 
 // A call of a store: of the first share of stripe 0, of that stripe's parity, or of the fence.
-#[derive(Clone, Copy, Debug)]
+#[derive(Clone, Copy)]
 enum Call {
     Store,
     Append(u32),
@@ -98,37 +99,74 @@ fn make<B: Bay>(
 
 // Each call with how many writes and syncs it makes. A cell is set by two of each the first two times, and by three when
 // a copy is used again; what is written before it is one of each.
-const CALLS: [(Call, u32, u32); 14] = [
-    (Call::Store, 3, 3),
-    (Call::Append(3), 3, 3),
-    (Call::Append(5), 4, 4),
-    (Call::Append(5), 0, 0),
-    (Call::Delete, 3, 3),
-    (Call::Store, 4, 4),
-    (Call::Parity, 3, 3),
-    (Call::Parity, 5, 5),
-    (Call::Parity, 6, 6),
-    (Call::Parity, 7, 7),
-    (Call::Fence(2), 2, 2),
-    (Call::Fence(2), 0, 0),
-    (Call::Fence(3), 3, 3),
-    (Call::Delete, 3, 3),
-];
+fn calls() -> [(Call, u32, u32); 14] {
+    [
+        (Call::Store, 3, 3),
+        (Call::Append(3), 3, 3),
+        (Call::Append(5), 4, 4),
+        (Call::Append(5), 0, 0),
+        (Call::Delete, 3, 3),
+        (Call::Store, 4, 4),
+        (Call::Parity, 3, 3),
+        (Call::Parity, 5, 5),
+        (Call::Parity, 6, 6),
+        (Call::Parity, 7, 7),
+        (Call::Fence(2), 2, 2),
+        (Call::Fence(2), 0, 0),
+        (Call::Fence(3), 3, 3),
+        (Call::Delete, 3, 3),
+    ]
+}
+
+// A store on a platter whose writes and syncs are counted.
+#[derive(Drop)]
+struct Bench {
+    bay: Counting<MemOutside>,
+    store: FragStore,
+}
+
+impl Model for Bench {
+    ghost use Rattle.std.specs.Prelude.{◌≡◌};
+    ghost use Rattle.zb_types.specs.declared.geometry.Geometry.{Geometry};
+
+    ghost Value = { Geometry };
+
+    ghost view = { λ a. a.store.geo };
+
+    ghost invariant = { λ a. (a.store.geo.servers ≡ 3) × (a.store.geo.fragment ≡ 256) };
+}
+
+impl Bench {
+    fn new(alloc: Global) -> Result<Bench, Fail> {
+        let mut bay = Counting {
+            inner: MemOutside::new(alloc, b"", b"", &[])?,
+            writes: 0,
+            syncs: 0,
+        };
+        let store = FragStore::format(alloc, &mut bay, &system()?, ServerId(1), 1)?;
+        Ok(Bench { bay, store })
+    }
+
+    // How many writes and syncs there were since the last count.
+    fn count(&mut self) -> (u32, u32) {
+        let counted = (self.bay.writes, self.bay.syncs);
+        self.bay.writes = 0;
+        self.bay.syncs = 0;
+        counted
+    }
+
+    fn make(&mut self, alloc: Global, call: Call) -> Result<(), StoreFault> {
+        make(&mut self.store, alloc, &mut self.bay, call)
+    }
+}
 
 #[test]
 fn a_change_writes_and_syncs_so_often(rt: HostRuntime) -> Result<(), Fail> {
-    let alloc = rt.alloc();
-    let mut bay = Counting {
-        inner: MemOutside::new(alloc, b"", b"", &[])?,
-        writes: 0,
-        syncs: 0,
-    };
-    let mut store = FragStore::format(alloc, &mut bay, &system()?, ServerId(1), 1)?;
-    assert_eq!(rt; (bay.writes, bay.syncs), (3, 3));
-    for (call, writes, syncs) in CALLS {
-        (bay.writes, bay.syncs) = (0, 0);
-        make(&mut store, alloc, &mut bay, call)?;
-        assert_eq!(rt; (bay.writes, bay.syncs), (writes, syncs), "at {call:?}");
+    let mut bench = Bench::new(rt.alloc())?;
+    assert_eq!(rt; bench.count(), (3, 3));
+    for (i, (call, writes, syncs)) in calls().iter().copied().enumerate() {
+        bench.make(rt.alloc(), call)?;
+        assert_eq!(rt; bench.count(), (writes, syncs), "at call {i}");
     }
     Ok(())
 }

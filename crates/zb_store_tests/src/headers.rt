@@ -1,7 +1,7 @@
 use crate::system::system;
 use std::test::Fail;
 use zb_slots::{Header, read_header, spell_header};
-use zb_types::{FragId, LogId};
+use zb_types::{FragId, Geometry, LogId};
 
 const PARITY: [u8; 40] = [
     0, 0, 0, 5, 0, 0, 0, 1, 0, 0, 0, 2, 2, 2, 1, 0, 0, 0, 1, 0, 0, 0, 0, 0, 0, 0, 0, 0, 0, 0, 0, 0,
@@ -20,6 +20,13 @@ const CHANGES: [(u8, u8, bool); 7] = [
     (39, 9, true),
 ];
 
+// Whether a header still stands once this byte is put at this place, the last at most.
+fn stands(geo: &Geometry, place: u8, byte: u8) -> bool {
+    let mut payload = PARITY;
+    payload[usize::from(place).min(39)] = byte;
+    read_header(geo, &payload).is_some()
+}
+
 #[test]
 fn a_header_is_spelled_and_read(rt: HostRuntime) -> Result<(), Fail> {
     let geo = system()?;
@@ -33,13 +40,12 @@ fn a_header_is_spelled_and_read(rt: HostRuntime) -> Result<(), Fail> {
         turn: 1,
         len: 256,
     };
-    assert_eq!(rt; spell_header(&header), PARITY);
-    assert_eq!(rt; read_header(&geo, &PARITY), Some(header));
-    assert_eq!(rt; read_header(&geo, &[0; 40]), Some(Header::Free));
-    for (at, byte, stands) in CHANGES {
-        let mut payload = PARITY;
-        payload[usize::from(at)] = byte;
-        assert_eq!(rt; read_header(&geo, &payload).is_some(), stands);
+    for (header, payload) in [(header, PARITY), (Header::Free, [0; 40])] {
+        assert!(rt; spell_header(&header) == payload);
+        assert!(rt; read_header(&geo, &payload) == Some(header));
+    }
+    for (place, byte, wanted) in CHANGES {
+        assert!(rt; stands(&geo, place, byte) == wanted, "at {place}");
     }
     Ok(())
 }

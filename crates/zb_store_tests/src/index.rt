@@ -81,46 +81,55 @@ fn add_and_grow(index: &mut Index) -> Mem<Option<u32>> {
     Ok(slot)
 }
 
-#[test]
-fn a_fragment_is_added_grown_and_removed(rt: HostRuntime) -> Result<(), Fail> {
-    let mut index = Index::empty(rt.alloc(), 2)?;
-    assert_eq!(rt; index.free(), 2);
-    assert_eq!(rt; add_and_grow(&mut index)?, Some(0));
-    let spot = Spot {
-        slot: 0,
-        turn: 0,
-        len: 8,
-    };
-    for wanted in [Some(spot), None] {
-        assert_eq!(rt; index.find(SHARE), wanted);
-        assert_eq!(rt; index.remove(SHARE), wanted);
-        assert_eq!(rt; index.free(), 2);
-    }
-    Ok(())
+/// Where a fragment stood that is removed, as the index finds it and as the removal tells it, and how many slots are free.
+fn removed(index: &mut Index) -> (Option<Spot>, Option<Spot>, u32) {
+    let found = index.find(SHARE);
+    let told = index.remove(SHARE);
+    (found, told, index.free())
 }
 
 #[test]
-fn a_parity_is_renewed_in_the_least_free_slot(rt: HostRuntime) -> Result<(), Fail> {
-    let mut built = Index::build(rt.alloc(), &[parity(2), HELD, FREE, FREE]).ok();
-    if let Some(built) = &mut built {
-        let former = Spot {
-            slot: 0,
-            turn: 2,
-            len: 9,
-        };
-        if built.index.find(PARITY).is_some() {
-            let renewed = built.index.renew(PARITY, 4);
-            assert_eq!(rt; renewed, Some(Renewed { former, slot: 2 }));
-        }
-        let next = Spot {
-            slot: 2,
-            turn: 0,
-            len: 4,
-        };
-        assert_eq!(rt; built.index.find(PARITY), Some(next));
-    }
-    assert!(rt; built.is_some());
+fn a_fragment_is_added_grown_and_removed(rt: HostRuntime) -> Result<(), Fail> {
+    let mut index = Index::empty(rt.alloc(), 2)?;
+    assert!(rt; index.free() == 2);
+    assert!(rt; add_and_grow(&mut index)? == Some(0));
+    let spot = Some(Spot {
+        slot: 0,
+        turn: 0,
+        len: 8,
+    });
+    assert!(rt; removed(&mut index) == (spot, spot, 2));
+    assert!(rt; removed(&mut index) == (None, None, 2));
     Ok(())
+}
+
+/// Renews a fragment that is held.
+fn renew(index: &mut Index, id: FragId) -> Option<Renewed> {
+    index.find(id)?;
+    index.renew(id, 4)
+}
+
+/// What a renewed parity leaves, and where it stands then.
+fn renewed_parity(alloc: Global) -> Result<(Option<Renewed>, Option<Spot>), IndexFault> {
+    let mut built = Index::build(alloc, &[parity(2), HELD, FREE, FREE])?;
+    let renewed = renew(&mut built.index, PARITY);
+    Ok((renewed, built.index.find(PARITY)))
+}
+
+#[test]
+fn a_parity_is_renewed_in_the_least_free_slot(rt: HostRuntime) {
+    let former = Spot {
+        slot: 0,
+        turn: 2,
+        len: 9,
+    };
+    let next = Spot {
+        slot: 2,
+        turn: 0,
+        len: 4,
+    };
+    let renewed = Some(Renewed { former, slot: 2 });
+    assert_eq!(rt; renewed_parity(rt.alloc()), Ok((renewed, Some(next))));
 }
 
 /// An index of three slots with three names.
@@ -145,8 +154,6 @@ fn names_are_listed_above_another(rt: HostRuntime) -> Result<(), Fail> {
     let names = [SHARE, PARITY, LATER];
     assert!(rt; has_names(&index, rt.alloc(), None, &names)?);
     assert!(rt; has_names(&index, rt.alloc(), Some(SHARE), &names[1..])?);
-    if index.find(LATER).is_some() {
-        assert!(rt; index.renew(LATER, 1).is_none());
-    }
+    assert!(rt; renew(&mut index, LATER).is_none());
     Ok(())
 }

@@ -1,6 +1,7 @@
 ghost use Rattle.std.specs.Prelude.{◌≡◌, ◌≤◌, length};
 
 use crate::system::{PARITY, SHARE, formatted, system};
+use std::alloc::Global;
 use std::test::Fail;
 use zb_cell::get;
 use zb_devices::MemOutside;
@@ -13,7 +14,7 @@ use zb_types::{Failed, Geometry, ServerId};
 
 // A call on the map: of slot 1 for a share, of slots 0 and 1 for a parity that is replaced, and of slots 5 and 1 for one that
 // stands twice.
-#[derive(Clone, Copy, Debug)]
+#[derive(Clone, Copy)]
 enum Call {
     Store,
     Append,
@@ -91,9 +92,9 @@ fn fragments_go_through_their_slots(rt: HostRuntime) -> Result<(), Fail> {
     let geo = system()?;
     let mut bay = formatted(rt.alloc())?;
     let area = parity_area(rt.alloc(), &[3, 2], b"xyz")?;
-    for (call, wanted) in rows() {
+    for (i, (call, wanted)) in rows().iter().copied().enumerate() {
         make(&mut bay, &geo, area.as_slice(), call)?;
-        assert_eq!(rt; standing(&mut bay, &geo)?, wanted, "at {call:?}");
+        assert_eq!(rt; standing(&mut bay, &geo)?, wanted, "at row {i}");
     }
     Ok(())
 }
@@ -103,16 +104,26 @@ const SUPER: [u8; 40] = [
     0, 2, 0, 0, 0, 0, 0, 0, 0, 0,
 ];
 
+// A platter of server 3 with fence 2.
+fn fenced(alloc: Global) -> Result<MemOutside, Fail> {
+    let mut bay = formatted(alloc)?;
+    fence_at(&mut bay, &system()?, 3, ServerId(3), 2)?;
+    Ok(bay)
+}
+
+// The fences that are found for servers 3 and 2.
+fn fences(bay: &mut MemOutside, geo: &Geometry) -> Result<[Option<u64>; 2], Failed> {
+    Ok([
+        find_fence(bay, geo, 3, ServerId(3))?,
+        find_fence(bay, geo, 3, ServerId(2))?,
+    ])
+}
+
 #[test]
 fn the_super_cell_tells_the_sizes_and_the_fence(rt: HostRuntime) -> Result<(), Fail> {
-    let geo = system()?;
-    let mut bay = formatted(rt.alloc())?;
-    fence_at(&mut bay, &geo, 3, ServerId(3), 2)?;
-    assert_eq!(rt; bay.platter(3).len(), 3712);
-    assert_eq!(rt; get(&mut bay, 3, 0), Ok(SUPER));
-    for (server, wanted) in [(3, Some(2)), (2, None)] {
-        let found = find_fence(&mut bay, &geo, 3, ServerId(server))?;
-        assert_eq!(rt; found, wanted);
-    }
+    let mut bay = fenced(rt.alloc())?;
+    assert!(rt; bay.platter(3).len() == 3712);
+    assert!(rt; get(&mut bay, 3, 0) == Ok(SUPER));
+    assert!(rt; fences(&mut bay, &system()?)? == [Some(2), None]);
     Ok(())
 }

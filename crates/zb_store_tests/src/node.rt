@@ -61,7 +61,7 @@ enum Step {
 }
 
 /// What is answered, without its lists.
-#[derive(Clone, Copy, Debug, PartialEq, Eq)]
+#[derive(Clone, Copy, PartialEq, Eq)]
 enum Told {
     Done,
     Bytes(usize, Option<u8>),
@@ -172,16 +172,22 @@ impl Bench {
     }
 }
 
+// Whether a row is answered as it says, by a node that serves exactly where its store answers.
+fn is_answered(bench: &mut Bench, alloc: Global, row: &Row) -> Result<bool, Fail> {
+    let (event, generation, step, wanted) = *row;
+    bench.meet(alloc, event)?;
+    let told = bench.serve(alloc, generation, step)?;
+    let answers = told != Told::Down && told != Told::Blank;
+    Ok(told == wanted && bench.node.serving() == answers)
+}
+
 /// The first row that is answered otherwise by a node, down at first and on a platter that leaves these images at its
-/// restarts, or where the node doesn't serve exactly where its store answers.
-fn first_other(alloc: Global, choices: &[u8], rows: &[Row]) -> Result<Option<(usize, Told)>, Fail> {
+/// restarts.
+fn first_other(alloc: Global, choices: &[u8], rows: &[Row]) -> Result<Option<usize>, Fail> {
     let mut bench = Bench::new(alloc, choices)?;
-    for (i, (event, generation, step, wanted)) in rows.iter().copied().enumerate() {
-        bench.meet(alloc, event)?;
-        let told = bench.serve(alloc, generation, step)?;
-        let answers = told != Told::Down && told != Told::Blank;
-        if told != wanted || bench.node.serving() != answers {
-            return Ok(Some((i, told)));
+    for (i, row) in rows.iter().enumerate() {
+        if !is_answered(&mut bench, alloc, row)? {
+            return Ok(Some(i));
         }
     }
     Ok(None)
@@ -207,43 +213,49 @@ const ALL: Told = Told::Names([Some(SHARE), Some(PARITY), None]);
 
 const BEHIND: Told = Told::Names([Some(PARITY), None, None]);
 
-const ANSWERED: [Row; 13] = [
-    (Event::Format, 1, Step::Delete, Told::Down),
-    (UP, 1, ABC, Told::Done),
-    (NOTHING, 1, Step::Append(3, *b"de"), Told::Done),
-    (NOTHING, 1, Step::Parity(*b"xyz"), Told::Done),
-    (
-        NOTHING,
-        1,
-        Step::Retrieve(SHARE, 5),
-        Told::Bytes(5, Some(b'a')),
-    ),
-    (NOTHING, 1, Step::Retrieve(SHARE, 6), SHORT),
-    (
-        NOTHING,
-        1,
-        Step::Retrieve(PARITY, 4),
-        Told::Parity(2, 4, Some(b'x')),
-    ),
-    (NOTHING, 1, Step::Identify(None), ALL),
-    (NOTHING, 1, Step::Identify(Some(SHARE)), BEHIND),
-    (NOTHING, 1, Step::Fence(2), Told::Done),
-    (NOTHING, 1, Step::Retrieve(SHARE, 1), OLD),
-    (NOTHING, 1, Step::Delete, Told::Done),
-    (NOTHING, 2, Step::Delete, NONE),
-];
+fn answered() -> [Row; 13] {
+    [
+        (Event::Format, 1, Step::Delete, Told::Down),
+        (UP, 1, ABC, Told::Done),
+        (NOTHING, 1, Step::Append(3, *b"de"), Told::Done),
+        (NOTHING, 1, Step::Parity(*b"xyz"), Told::Done),
+        (
+            NOTHING,
+            1,
+            Step::Retrieve(SHARE, 5),
+            Told::Bytes(5, Some(b'a')),
+        ),
+        (NOTHING, 1, Step::Retrieve(SHARE, 6), SHORT),
+        (
+            NOTHING,
+            1,
+            Step::Retrieve(PARITY, 4),
+            Told::Parity(2, 4, Some(b'x')),
+        ),
+        (NOTHING, 1, Step::Identify(None), ALL),
+        (NOTHING, 1, Step::Identify(Some(SHARE)), BEHIND),
+        (NOTHING, 1, Step::Fence(2), Told::Done),
+        (NOTHING, 1, Step::Retrieve(SHARE, 1), OLD),
+        (NOTHING, 1, Step::Delete, Told::Done),
+        (NOTHING, 2, Step::Delete, NONE),
+    ]
+}
 
-const DOWN_AND_UP: [Row; 7] = [
-    (Event::Format, 1, Step::Delete, Told::Down),
-    (UP, 1, Step::Delete, NONE),
-    (Event::Stop(1), 1, ABC, Told::Down),
-    (NOTHING, 1, Step::Delete, Told::Down),
-    (UP, 1, ABC, Told::Done),
-    (Event::Crash, 1, Step::Delete, Told::Down),
-    (UP, 1, Step::Delete, Told::Done),
-];
+fn down_and_up() -> [Row; 7] {
+    [
+        (Event::Format, 1, Step::Delete, Told::Down),
+        (UP, 1, Step::Delete, NONE),
+        (Event::Stop(1), 1, ABC, Told::Down),
+        (NOTHING, 1, Step::Delete, Told::Down),
+        (UP, 1, ABC, Told::Done),
+        (Event::Crash, 1, Step::Delete, Told::Down),
+        (UP, 1, Step::Delete, Told::Done),
+    ]
+}
 
-const NEVER_FORMATTED: [Row; 1] = [(BLANK, 1, Step::Delete, Told::Blank)];
+fn never_formatted() -> [Row; 1] {
+    [(BLANK, 1, Step::Delete, Told::Blank)]
+}
 
 // A store that is stopped at its last write, and what is answered to it again after the restart that brings its node up.
 fn stopped(again: Told) -> [Row; 4] {
@@ -255,19 +267,20 @@ fn stopped(again: Told) -> [Row; 4] {
     ]
 }
 
-// The stopped store was lost, and not synced, by the restart: once for a restart that leaves no unsynced write, and once for
-// one that leaves them all.
+// The first rows that are answered otherwise. The stopped store was lost, and not synced, by the restart: once for a restart
+// that leaves no unsynced write, and once for one that leaves them all.
+fn others(alloc: Global) -> Result<[Option<usize>; 5], Fail> {
+    Ok([
+        first_other(alloc, &[], &answered())?,
+        first_other(alloc, &[], &down_and_up())?,
+        first_other(alloc, &[], &never_formatted())?,
+        first_other(alloc, &[0, 0], &stopped(Told::Done))?,
+        first_other(alloc, &[0, 1], &stopped(EXISTS))?,
+    ])
+}
+
 #[test]
 fn a_node_answers_by_its_store_and_comes_back(rt: HostRuntime) -> Result<(), Fail> {
-    let table: [(&str, &[u8], &[Row]); 5] = [
-        ("up", &[], &ANSWERED),
-        ("down and up", &[], &DOWN_AND_UP),
-        ("blank", &[], &NEVER_FORMATTED),
-        ("none left", &[0, 0], &stopped(Told::Done)),
-        ("all left", &[0, 1], &stopped(EXISTS)),
-    ];
-    for (name, choices, rows) in table {
-        assert_eq!(rt; first_other(rt.alloc(), choices, rows)?, None, "{name}");
-    }
+    assert_eq!(rt; others(rt.alloc())?, [None; 5]);
     Ok(())
 }

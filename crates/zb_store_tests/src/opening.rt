@@ -1,5 +1,3 @@
-ghost use Rattle.std.specs.Prelude.{◌≤◌, length};
-
 use crate::system::system;
 use std::alloc::Global;
 use std::test::Fail;
@@ -21,10 +19,10 @@ fn header(index: u8, kind: u8, turn: u8, length: [u8; 2]) -> [u8; 40] {
     ]
 }
 
+const FREE: [u8; 40] = [0; 40];
+
 // Opens a platter with these headers in its first three slots, and tells the free slots.
-fn opened(alloc: Global, headers: &[[u8; 40]]) -> Result<Result<u32, OpenFault>, Fail>
-    requires { length headers.now ≤ 3 }
-{
+fn opened(alloc: Global, headers: &[[u8; 40]; 3]) -> Result<Result<u32, OpenFault>, Fail> {
     let mut bay = MemOutside::new(alloc, b"", b"", &[])?;
     format_at(&mut bay, &system()?, 1, SERVER, 1)?;
     for (slot, payload) in headers.iter().enumerate() {
@@ -33,43 +31,44 @@ fn opened(alloc: Global, headers: &[[u8; 40]]) -> Result<Result<u32, OpenFault>,
     Ok(FragStore::open(alloc, &mut bay, &system()?, SERVER).map(|store| store.free()))
 }
 
+// Why a platter of zeros isn't opened.
+fn fault_of_zeros(alloc: Global) -> Result<Option<OpenFault>, Fail> {
+    let mut bay = MemOutside::new(alloc, b"", b"", &[])?;
+    bay.write_at(1, 0, &[0; 4096])?;
+    Ok(FragStore::open(alloc, &mut bay, &system()?, SERVER).err())
+}
+
+fn share() -> [u8; 40] {
+    header(1, 1, 0, [1, 0])
+}
+
+fn parity(turn: u8) -> [u8; 40] {
+    header(2, 2, turn, [0, 9])
+}
+
+// Headers, and how many slots are free, or the first that is bad.
+fn rows() -> [([[u8; 40]; 3], Result<u32, u32>); 10] {
+    [
+        ([FREE, FREE, FREE], Ok(8)),
+        ([share(), FREE, FREE], Ok(7)),
+        ([header(2, 1, 0, [0, 1]), FREE, FREE], Err(0)),
+        ([share(), header(0, 3, 0, [0, 0]), FREE], Err(1)),
+        ([share(), header(0, 1, 1, [0, 1]), FREE], Err(1)),
+        ([header(0, 1, 0, [1, 1]), FREE, FREE], Err(0)),
+        ([share(), share(), FREE], Err(1)),
+        ([parity(0), parity(1), FREE], Ok(7)),
+        ([parity(1), parity(1), FREE], Err(1)),
+        ([parity(0), parity(1), parity(2)], Err(1)),
+    ]
+}
+
 #[test]
 fn a_platter_is_opened_exactly_where_no_slot_is_bad(rt: HostRuntime) -> Result<(), Fail> {
-    let parity = |turn| header(2, 2, turn, [0, 9]);
-    let share = header(1, 1, 0, [1, 0]);
-    let table: [(&[[u8; 40]], Result<u32, OpenFault>); 10] = [
-        (&[], Ok(8)),
-        (&[share], Ok(7)),
-        (
-            &[header(2, 1, 0, [0, 1])],
-            Err(OpenFault::Damaged { slot: 0 }),
-        ),
-        (
-            &[share, header(0, 3, 0, [0, 0])],
-            Err(OpenFault::Damaged { slot: 1 }),
-        ),
-        (
-            &[share, header(0, 1, 1, [0, 1])],
-            Err(OpenFault::Damaged { slot: 1 }),
-        ),
-        (
-            &[header(0, 1, 0, [1, 1])],
-            Err(OpenFault::Damaged { slot: 0 }),
-        ),
-        (&[share, share], Err(OpenFault::Damaged { slot: 1 })),
-        (&[parity(0), parity(1)], Ok(7)),
-        (&[parity(1), parity(1)], Err(OpenFault::Damaged { slot: 1 })),
-        (
-            &[parity(0), parity(1), parity(2)],
-            Err(OpenFault::Damaged { slot: 1 }),
-        ),
-    ];
-    for (headers, wanted) in table {
-        assert_eq!(rt; opened(rt.alloc(), headers)?, wanted);
+    for (i, (headers, wanted)) in rows().iter().enumerate() {
+        let told = opened(rt.alloc(), headers)?;
+        let wanted = wanted.map_err(|slot| OpenFault::Damaged { slot });
+        assert!(rt; told == wanted, "at row {i}");
     }
-    let mut bay = MemOutside::new(rt.alloc(), b"", b"", &[])?;
-    bay.write_at(1, 0, &[0; 4096])?;
-    let blank = FragStore::open(rt.alloc(), &mut bay, &system()?, SERVER).err();
-    assert_eq!(rt; blank, Some(OpenFault::Blank));
+    assert!(rt; fault_of_zeros(rt.alloc())? == Some(OpenFault::Blank));
     Ok(())
 }

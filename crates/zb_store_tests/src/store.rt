@@ -206,7 +206,7 @@ fn first_byte(response: &Response) -> u8 {
 }
 
 // What a store shows: its fence, its free slots, and four of its fragments.
-#[derive(Clone, Copy, Debug, PartialEq, Eq)]
+#[derive(Clone, Copy, PartialEq, Eq)]
 struct View {
     fence: u64,
     free: u32,
@@ -263,24 +263,33 @@ fn free_after(bench: &mut Bench, alloc: Global, call: Call) -> Result<u64, Store
     Ok(u64::from(bench.store.free()))
 }
 
-#[test]
-fn shares_are_answered_by_the_rules(rt: HostRuntime) -> Result<(), Fail> {
-    let share = |stripe, bytes, generation| Call::Store {
+fn share(stripe: u64, bytes: &'static [u8], generation: u64) -> Call {
+    Call::Store {
         stripe,
         bytes,
         generation,
-    };
-    let behind = |place, bytes| Call::Append {
+    }
+}
+
+fn behind(place: u8, bytes: &'static [u8]) -> Call {
+    Call::Append {
         place,
         bytes,
         generation: 1,
-    };
-    let bytes = |place, end, generation| Call::Retrieve {
+    }
+}
+
+fn bytes(place: u8, end: u8, generation: u64) -> Call {
+    Call::Retrieve {
         place,
         end,
         generation,
-    };
-    let table = [
+    }
+}
+
+// Calls, each with how many slots are free then, or why it is refused.
+fn rows() -> [(Call, Result<u64, StoreFault>); 14] {
+    [
         (share(0, b"abc", 1), Ok(7)),
         (share(0, b"abc", 1), Err(StoreFault::Exists)),
         (behind(3, b"de"), Ok(7)),
@@ -295,9 +304,13 @@ fn shares_are_answered_by_the_rules(rt: HostRuntime) -> Result<(), Fail> {
         (share(4, b"z", 2), Err(StoreFault::NoSlot { free: 4 })),
         (Call::Delete, Ok(5)),
         (bytes(0, 1, 2), Err(StoreFault::NoFragment)),
-    ];
+    ]
+}
+
+#[test]
+fn shares_are_answered_by_the_rules(rt: HostRuntime) -> Result<(), Fail> {
     let mut bench = Bench::new(rt.alloc(), 0)?;
-    for (call, wanted) in table {
+    for (call, wanted) in rows() {
         assert_eq!(rt; free_after(&mut bench, rt.alloc(), call), wanted);
     }
     let names = [id(1, 0), id(2, 0), id(3, 0)];
@@ -306,23 +319,27 @@ fn shares_are_answered_by_the_rules(rt: HostRuntime) -> Result<(), Fail> {
     Ok(())
 }
 
-// The lengths and the bytes of a parity that was read.
-fn parity_of(response: &Response) -> Option<(&[u32], &[u8])> {
+// Whether a parity was read with these lengths and bytes.
+fn is_parity(response: &Response, covered: &[u32], wanted: &[u8]) -> bool {
     match response {
-        Response::Parity { lengths, bytes } => Some((lengths.slice(), bytes.slice())),
-        _ => None,
+        Response::Parity { lengths, bytes } => {
+            lengths.slice() == covered && bytes.slice() == wanted
+        }
+        _ => false,
     }
+}
+
+// Whether bytes 1 to 5 of a parity of three bytes are read with its lengths.
+fn reads_past_its_end(bench: &mut Bench, alloc: Global) -> Result<bool, StoreFault> {
+    bench.parity(alloc, 0, [3, 2], b"xyz")?;
+    let response = bench.retrieve(alloc, id(0, 2), 1, 5, 1)?;
+    Ok(is_parity(&response, &[3, 2], b"yz\0\0"))
 }
 
 #[test]
 fn a_parity_is_read_with_its_lengths_and_zeros_past_its_end(rt: HostRuntime) -> Result<(), Fail> {
     let mut bench = Bench::new(rt.alloc(), 0)?;
-    bench.parity(rt.alloc(), 0, [3, 2], b"xyz")?;
-    let response = bench.retrieve(rt.alloc(), id(0, 2), 1, 5, 1)?;
-    assert_eq!(rt;
-        parity_of(&response),
-        Some(([3, 2].as_slice(), b"yz\0\0".as_slice()))
-    );
+    assert!(rt; reads_past_its_end(&mut bench, rt.alloc())?);
     assert!(rt; bench.has_names(rt.alloc(), None, &[id(0, 2)])?);
     Ok(())
 }

@@ -1,5 +1,5 @@
 -- How the bytes of a pointer are read, request by request.
-use Rattle.std.specs.Prelude.{◌≡◌, ◌≢◌, ℕ, zero, suc, ◌+◌, ◌-◌, ◌/◌, ◌%◌, ◌<◌, ◌≤◌, min, Bool, true, false, ◌==◌, ◌&&◌, ◌||◌, nat_lt, nat_le, if◌then◌else◌, List, [], ◌∷◌, ◌++◌, length, map, slice_index, slice_index_or, slice_set, Option, Some, None}
+use Rattle.std.specs.Prelude.{◌≡◌, ◌≢◌, ◌⊎◌, ℕ, zero, suc, ◌+◌, ◌-◌, ◌/◌, ◌%◌, ◌<◌, ◌≤◌, min, Bool, true, false, ◌==◌, ◌&&◌, ◌||◌, nat_lt, nat_le, if◌then◌else◌, List, [], ◌∷◌, ◌++◌, length, map, slice_index, slice_index_or, slice_set, Option, Some, None}
 use Rattle.std.specs.List.{range_with_len}
 use Rattle.zb_types.specs.declared.ids.ServerId.{ServerId}
 use Rattle.zb_types.specs.declared.ids.FragId.{FragId}
@@ -303,7 +303,31 @@ abbrev pub is_gone : Got → Bool
 is_gone got.Gone = true
 is_gone g = false
 
--- where a read is unreachable, two different servers are named, the lesser first
-abbrev pub NamesTwo : Got → Type 0
-NamesTwo (got.Unreachable a b) = a.0 < b.0
-NamesTwo g = Unit {0}
+-- a server that is down or blank
+abbrev pub IsNotThere : Response → Type 0
+IsNotThere told.Down = Unit {0}
+IsNotThere told.Blank = Unit {0}
+IsNotThere response = ⊥
+
+-- this server was asked, and is down or blank
+abbrev pub DidNotAnswer : Option (ServerId × Request) → Response → ServerId → Type 0
+DidNotAnswer None response server = ⊥
+DidNotAnswer (Some asked) response server = (server ≡ asked.0) × IsNotThere response
+
+-- a server of the stripe that was known to be lost, or was asked this now and is down or blank
+pub record IsLost (r : Reading) (asking : Option (ServerId × Request)) (response : Response) (server : ServerId) : Type 0 where
+  pub index : ℕ
+  pub below : index < r.servers
+  pub at : server ≡ server_at r index
+  pub lost : (is_lost r index ≡ true) ⊎ DidNotAnswer asking response server
+
+-- where a read is unreachable, two different servers are named, the lesser first, and each of them is lost
+abbrev pub NamesLost : Reading → Option (ServerId × Request) → Response → Got → Type 0
+NamesLost r asking response (got.Unreachable a b) = (a.0 < b.0) × IsLost r asking response a × IsLost r asking response b
+NamesLost r asking response g = Unit {0}
+
+-- the server of the next range is lost where its parity or another share is asked
+abbrev pub OwnIsLost : Reading → Phase → Type 0
+OwnIsLost r Direct = Unit {0}
+OwnIsLost r Lengths = is_lost r (index_of r) ≡ true
+OwnIsLost r (Others lengths sum k) = is_lost r (index_of r) ≡ true

@@ -40,9 +40,14 @@ share_requests n f out class log part (suc k) = share_requests n f out class log
 abbrev pub lengths_of : ℕ → ℕ → Part → List ℕ
 lengths_of n f part = map (share_length f (length part.bytes)) (range_with_len 0 (n - 1))
 
--- the exclusive or of the shares of all its bytes, as long as the longest
+-- the parity of a stripe's bytes: the exclusive or of their shares, as long as the longest
+abbrev pub parity_upto : ℕ → ℕ → List ℕ → List ℕ
+parity_upto n f bytes =
+    map (xor_at (share_of f bytes) (n - 1)) (range_with_len 0 (greatest (map (share_length f (length bytes)) (range_with_len 0 (n - 1)))))
+
+-- the parity of all bytes of a part
 abbrev pub parity_bytes : ℕ → ℕ → Part → List ℕ
-parity_bytes n f part = map (xor_at (share_of f part.bytes) (n - 1)) (range_with_len 0 (greatest (lengths_of n f part)))
+parity_bytes n f part = parity_upto n f part.bytes
 
 -- the request for the parity over all its bytes
 abbrev pub parity_request : ℕ → ℕ → Option ServerId → Class → LogId → Part → List (ServerId × Request)

@@ -8,7 +8,8 @@ mod read;
 mod source;
 mod write;
 
-pub use flush::{Flush, Part, PartList};
+pub use flush::{Flush, Fresh, FreshFlush, FreshList, Part, PartList};
+pub use parity::grow_parity;
 pub use progress::Phase;
 pub use read::{Got, ReadPlan};
 pub use write::{Fed, WritePlan};

@@ -1,5 +1,5 @@
 ghost use Rattle.zb_stripe.specs.declared.progress.Progress.{Progress};
-ghost use Rattle.std.specs.Prelude.{◌≡◌, ◌≢◌, ℕ, Bool, List, [], ◌+◌, ◌-◌, ◌*◌, ◌<◌, ◌≤◌, IfOk, length, slice_index_or, false};
+ghost use Rattle.std.specs.Prelude.{◌≡◌, ◌≢◌, ℕ, Bool, List, [], ◌+◌, ◌-◌, ◌*◌, ◌<◌, ◌≤◌, IfOk, length, slice_index_or, true, false};
 ghost use Rattle.zb_holding.specs.Exclusive.{xored};
 ghost use Rattle.zb_stripe.specs.Reading.{
   reading,
@@ -14,7 +14,9 @@ ghost use Rattle.zb_stripe.specs.Reading.{
   gained,
   blocked_in,
   fed,
+  is_lost,
   IsSound,
+  OwnIsLost,
   IsCovered,
   CanRead,
   BringsBytes,
@@ -100,6 +102,7 @@ pub(crate) fn enter(source: &Source, lost: &[bool], read: ByteList) -> Progress
     requires below { length read ≤ source.now.ptr.len }
     ensures entered { read_of source.now lost.now result ≡ entered (reading source.now lost.now read) }
     ensures sound { IsSound (read_of source.now lost.now result) }
+    ensures own { OwnIsLost (read_of source.now lost.now result) result.phase }
 {
     let next = range(source, &read);
     let phase = if next.len > 0 && is_lost(lost, next.index) {
@@ -122,6 +125,7 @@ fn advance(
     ensures advanced { IfOk result
         (λ p. read_of source.now lost.now p ≡ advanced (reading source.now lost.now read.now) bytes.now) }
     ensures sound { IfOk result (λ p. IsSound (read_of source.now lost.now p)) }
+    ensures own { IfOk result (λ p. OwnIsLost (read_of source.now lost.now p) p.phase) }
 {
     let mut all = Vec::from_slice(alloc, read.slice())?;
     all.extend_from_slice(bytes)?;
@@ -166,9 +170,11 @@ fn seek(
     requires long { length sum ≡ len_of (reading source.now [] read.now) }
     requires count { length lengths.now ≡ source.now.geo.servers - 1 }
     requires first { from ≤ source.now.geo.servers - 1 }
+    requires own { is_lost (reading source.now lost.now read.now) (index_of (reading source.now lost.now read.now)) ≡ true }
     ensures sought { IfOk result (λ p. read_of source.now lost.now p
         ≡ sought (reading source.now lost.now read.now) lengths.now sum (source.now.geo.servers - 1 - from)) }
     ensures sound { IfOk result (λ p. IsSound (read_of source.now lost.now p)) }
+    ensures own { IfOk result (λ p. OwnIsLost (read_of source.now lost.now p) p.phase) }
 {
     let index = next_covered(source, read, lengths, from);
     if index == source.parity() {
@@ -203,12 +209,14 @@ pub(crate) fn gather(
     response: &Response,
 ) -> Mem<Progress>
     requires sound { IsSound (read_of source.now lost.now p.now) }
+    requires own { OwnIsLost (read_of source.now lost.now p.now) p.now.phase }
     requires can { CanRead (read_of source.now lost.now p.now) response.now }
     requires brings { BringsBytes response.now }
     ensures gathered { IfOk result
         (λ new. gained (read_of source.now lost.now p.now) (read_of source.now lost.now new)
         ≡ fed (read_of source.now lost.now p.now) response.now) }
     ensures sound { IfOk result (λ new. IsSound (read_of source.now lost.now new)) }
+    ensures own { IfOk result (λ new. OwnIsLost (read_of source.now lost.now new) new.phase) }
 {
     match response {
         Response::Bytes(bytes) => match &p.phase {

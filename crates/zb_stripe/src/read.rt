@@ -22,7 +22,7 @@ ghost use Rattle.zb_stripe.specs.Reading.{
   MayWant,
   lacks_bytes,
   is_gone,
-  NamesTwo,
+  NamesLost,
 };
 
 use crate::progress::{Phase, Progress, ask, blocked, enter, gather, is_lost, range};
@@ -61,7 +61,7 @@ pub struct ReadPlan {
 
 impl Model for ReadPlan {
     ghost use Rattle.std.specs.Prelude.{◌≡◌, length};
-    ghost use Rattle.zb_stripe.specs.Reading.{Reading, read_of, asked, IsSound};
+    ghost use Rattle.zb_stripe.specs.Reading.{Reading, read_of, asked, IsSound, OwnIsLost};
 
     ghost Value = { Reading };
 
@@ -69,6 +69,7 @@ impl Model for ReadPlan {
 
     ghost invariant = { λ a. (a.request ≡ asked (read_of a.source a.lost.items a.progress))
         × IsSound (read_of a.source a.lost.items a.progress)
+        × OwnIsLost (read_of a.source a.lost.items a.progress) a.progress.phase
         × (length a.lost.items ≡ a.source.geo.servers) };
 }
 
@@ -286,8 +287,8 @@ impl ReadPlan {
         ensures ok { OnOk result (self.new ≡ (fed self.old response.now).0) }
         ensures got { IfOk result (λ got. got ≡ (fed self.old response.now).1) }
 
-        // Unreachable names two different servers.
-        ensures two { IfOk result NamesTwo }
+        // Unreachable names two different servers, each of which was left away, or was answered down or blank, by now.
+        ensures two { IfOk result (NamesLost self.old (asked self.old) response.now) }
 
         // Gone comes exactly where the bytes aren't there.
         ensures gone { IfOk result (λ got. is_gone got ≡ lacks_bytes response.now) }

@@ -1,10 +1,13 @@
 ghost use Rattle.std.specs.Prelude.{◌≡◌, ℕ, ◌-◌, ◌*◌, ◌<◌, ◌++◌, IfOk, OnOk, length, All, option_map, slice_get};
 ghost use Rattle.zb_holding.specs.Holding.{is_away};
-ghost use Rattle.zb_stripe.specs.Writing.{grow, share_request, parity_request, part_requests, plan_requests, IsWritable};
+ghost use Rattle.zb_stripe.specs.declared.flush.Part.{Part};
+ghost use Rattle.zb_stripe.specs.declared.flush.Flush.{Flush};
+ghost use Rattle.zb_stripe.specs.Writing.{grow, share_request, parity_request, part_requests, plan_requests};
+ghost use Rattle.zb_stripe.specs.Fresh.{IsFresh, IsFreshFlush, HasRoom};
 ghost use Rattle.zb_stripe.specs.Feeding.{fed_by, left_after};
 
-use crate::flush::{Flush, Part};
-use crate::parity::{lengths, parity};
+use crate::flush::{Fresh, FreshFlush};
+use crate::parity::{lengths, new_of_share};
 use std::alloc::Global;
 use std::marker::Model;
 use zb_layout::{server_of, share};
@@ -87,31 +90,29 @@ fn push_share(
     requests: &mut Vec<(ServerId, Request)>,
     alloc: Global,
     to: Setting,
-    part: &Part,
+    fresh: &Fresh,
     k: u8,
 ) -> Mem<()>
-    requires fits { IsWritable ((to.geo.servers - 1) * to.geo.fragment) part.now }
+    requires fits { HasRoom ((to.geo.servers - 1) * to.geo.fragment) fresh.now }
     requires index { k < to.geo.servers - 1 }
-    ensures { OnOk result
-        (requests.new.items
-        ≡ requests.old.items ++ share_request to.geo.servers to.geo.fragment to.out to.class to.log part.now k) }
+    ensures { OnOk result ((part : Part) → IsFresh to.geo.servers to.geo.fragment part fresh.now
+        → requests.new.items
+        ≡ requests.old.items ++ share_request to.geo.servers to.geo.fragment to.out to.class to.log part k) }
 {
-    let had = share(&to.geo, part.begin, k);
-    let all = share(&to.geo, part.bytes.len() as u32, k);
-    if all <= had {
+    let new = new_of_share(&to.geo, fresh.begin, fresh.bytes.slice(), k);
+    if new.is_empty() {
         return Ok(());
     }
     let id = FragId {
         log: to.log,
-        stripe: part.stripe,
+        stripe: fresh.stripe,
         index: k,
     };
     let server = server_of(&to.geo, id);
     if is_out(to.out, server) {
         return Ok(());
     }
-    let from = usize::from(k) * to.geo.fragment as usize;
-    let new = &part.bytes.slice()[from + had as usize..from + all as usize];
+    let had = share(&to.geo, fresh.begin, k);
     let bytes = ByteList::from_slice(alloc, new)?;
     requests.push((server, grow(id, to.class, had, bytes)))?;
     Ok(())
@@ -122,24 +123,24 @@ fn push_parity(
     requests: &mut Vec<(ServerId, Request)>,
     alloc: Global,
     to: Setting,
-    part: &Part,
+    fresh: &Fresh,
 ) -> Mem<()>
-    requires fits { IsWritable ((to.geo.servers - 1) * to.geo.fragment) part.now }
-    ensures { OnOk result
-        (requests.new.items
-        ≡ requests.old.items ++ parity_request to.geo.servers to.geo.fragment to.out to.class to.log part.now) }
+    requires fits { HasRoom ((to.geo.servers - 1) * to.geo.fragment) fresh.now }
+    ensures { OnOk result ((part : Part) → IsFresh to.geo.servers to.geo.fragment part fresh.now
+        → requests.new.items
+        ≡ requests.old.items ++ parity_request to.geo.servers to.geo.fragment to.out to.class to.log part) }
 {
     let id = FragId {
         log: to.log,
-        stripe: part.stripe,
+        stripe: fresh.stripe,
         index: (to.geo.servers - 1) as u8,
     };
     let server = server_of(&to.geo, id);
     if is_out(to.out, server) {
         return Ok(());
     }
-    let lengths = lengths(alloc, &to.geo, part.bytes.len() as u32)?;
-    let bytes = parity(alloc, &to.geo, part.bytes.slice())?;
+    let lengths = lengths(alloc, &to.geo, fresh.begin + fresh.bytes.len() as u32)?;
+    let bytes = fresh.parity.copy(alloc)?;
     let request = Request::Parity {
         id,
         lengths,
@@ -150,22 +151,23 @@ fn push_parity(
     Ok(())
 }
 
-/// Adds the requests of a part.
+/// Adds the requests of a part, of which this is new.
 fn push_part(
     requests: &mut Vec<(ServerId, Request)>,
     alloc: Global,
     to: Setting,
-    part: &Part,
+    fresh: &Fresh,
 ) -> Mem<()>
-    requires fits { IsWritable ((to.geo.servers - 1) * to.geo.fragment) part.now }
-    ensures { OnOk result
-        (requests.new.items
-        ≡ requests.old.items ++ part_requests to.geo.servers to.geo.fragment to.out to.class to.log part.now) }
+    requires fits { HasRoom ((to.geo.servers - 1) * to.geo.fragment) fresh.now }
+    ensures { OnOk result ((part : Part) → IsFresh to.geo.servers to.geo.fragment part fresh.now
+        → requests.new.items
+        ≡ requests.old.items ++ part_requests to.geo.servers to.geo.fragment to.out to.class to.log part) }
 {
     for k in 0..(to.geo.servers - 1) as u8 {
-        push_share(requests, alloc, to, part, k)?;
+        push_share(requests, alloc, to, fresh, k)?;
     }
-    push_parity(requests, alloc, to, part)
+    push_parity(requests, alloc, to, fresh)?;
+    Ok(())
 }
 
 impl WritePlan {
@@ -175,22 +177,24 @@ impl WritePlan {
     pub fn new(
         alloc: Global,
         geo: &Geometry,
-        flush: &Flush,
+        fresh: &FreshFlush,
         out: Option<ServerId>,
         class: Class,
     ) -> Mem<WritePlan>
-        requires { All (IsWritable ((geo.now.servers - 1) * geo.now.fragment)) flush.now.parts }
-        ensures { IfOk result (λ plan. plan
-            ≡ plan_requests geo.now.servers geo.now.fragment out class flush.now) }
+        requires { All (HasRoom ((geo.now.servers - 1) * geo.now.fragment)) fresh.now.parts }
+
+        // It is the plan of each flush of which this is new, whatever stood before in its stripes.
+        ensures { IfOk result (λ plan. (flush : Flush) → IsFreshFlush geo.now.servers geo.now.fragment flush fresh.now
+            → plan ≡ plan_requests geo.now.servers geo.now.fragment out class flush) }
     {
         let to = Setting {
             geo: *geo,
-            log: flush.log,
+            log: fresh.log,
             out,
             class,
         };
         let mut requests = Vec::new(alloc);
-        for part in flush.parts.slice() {
+        for part in fresh.parts.slice() {
             push_part(&mut requests, alloc, to, part)?;
         }
         Ok(WritePlan { requests, at: 0 })

@@ -27,9 +27,9 @@ use Rattle.zb_stripe.specs.declared.read.Got.TheVariants as got
 use Rattle.zb_stripe.specs.declared.progress.Phase.{Phase}
 use Rattle.zb_stripe.specs.declared.progress.Phase.TheVariants.{Direct, Lengths, Others}
 use Rattle.zb_holding.specs.Exclusive.{xored}
-use Rattle.zb_stripe.specs.Reading.{Reading, entered, advanced, own_lost, sought, names_two, blocked_in, gained_by, gained, own_gone, fed, asked, first_lost, start, is_more, answered}
+use Rattle.zb_stripe.specs.Reading.{Reading, entered, advanced, own_lost, sought, names_two, blocked_in, gained_by, gained, own_gone, fed, asked, first_lost, start, is_more, answered, IsNotThere}
 use Rattle.zb_stripe_laws.specs.ReadAtWork as work
-use Rattle.zb_stripe_laws.specs.ReadAtWork.{IsNotThere, AnswersWith, AnswersFrom, AllAnswer}
+use Rattle.zb_stripe_laws.specs.ReadAtWork.{AnswersWith, AnswersFrom, AllAnswer}
 use Rattle.zb_holding.proofs.Shares.{length-share_of}
 use Rattle.zb_stripe_laws.proofs.Ranges.{range_is, found_or_none, parity_range, length-parity_range, parity_range_at}
 

@@ -18,8 +18,8 @@ use Rattle.zb_stripe.specs.declared.read.Got.{Got}
 use Rattle.zb_stripe.specs.declared.read.Got.TheVariants as got
 use Rattle.zb_stripe.specs.declared.progress.Phase.{Phase}
 use Rattle.zb_stripe.specs.declared.progress.Phase.TheVariants.{Direct, Lengths, Others}
-use Rattle.zb_stripe.specs.Reading.{Reading, names_two, asked, fed, blocked_in, first_lost, is_gone}
-use Rattle.zb_stripe_laws.specs.ReadAtWork.{LetsRead, lengths_seen, IsGoneOrSame, IsGoneOrLonger, StillStand, StillGrow, ReadAtWork, WasLooked, TellsOfFragment, AnswersWith, MayTell, DidNotAnswer, IsLost, as_seen, LeadsTo, AsksOther}
+use Rattle.zb_stripe.specs.Reading.{Reading, names_two, asked, fed, blocked_in, first_lost, is_gone, DidNotAnswer, IsLost}
+use Rattle.zb_stripe_laws.specs.ReadAtWork.{LetsRead, lengths_seen, IsGoneOrSame, IsGoneOrLonger, StillStand, StillGrow, ReadAtWork, WasLooked, TellsOfFragment, AnswersWith, MayTell, as_seen, LeadsTo, AsksOther}
 use Rattle.zb_stripe_laws.specs.ReadAtWork as work
 use Rattle.zb_holding.proofs.Placings.{turn_once}
 use Rattle.zb_stripe_laws.proofs.Away.{away_once}
@@ -129,7 +129,7 @@ module _ (n f : ℕ) (ptr : Ptr) (end : ℕ) (two : 2 ≤ n) (some : 0 < f) (ins
 
   -- two servers of a stripe that are lost are named with the lesser first
   two_named : (now seen : Maps) (x y : Option ServerId) (bytes : List ℕ) (before : Reading) (t : Response) (r : Reading) (i j : ℕ) → i < n → j < n → j ≢ i
-      → IsLost before t (At i) → IsLost before t (At j) → LeadsTo now seen x y end bytes before t r (names_two (At i) (At j))
+      → IsLost before (asked before) t (At i) → IsLost before (asked before) t (At j) → LeadsTo now seen x y end bytes before t r (names_two (At i) (At j))
   two_named now seen x y bytes before t r i j il jl ne one other =
       cond_both (ltb (At i).0 (At j).0) (got.Unreachable (At i) (At j)) (got.Unreachable (At j) (At i)) (LeadsTo now seen x y end bytes before t r)
       (λ less. (ltb-true (At i).0 (At j).0 less, one, other))
@@ -189,7 +189,7 @@ module _ (n f : ℕ) (ptr : Ptr) (end : ℕ) (two : 2 ≤ n) (some : 0 < f) (ins
       abbrev Leads : Reading × Got → Type 0
       Leads p = LeadsTo now seen x y end bytes Before t p.0 p.1
 
-      is_lost_at : (k : ℕ) → k < n → (get_or lost k false ≡ true) ⊎ Asked lost read phase t (At k) → IsLost Before t (At k)
+      is_lost_at : (k : ℕ) → k < n → (get_or lost k false ≡ true) ⊎ Asked lost read phase t (At k) → IsLost Before (asked Before) t (At k)
       is_lost_at k l e = record { index = k; below = l; at = refl; lost = e }
 
       -- the maps of now are those in which the parity is seen

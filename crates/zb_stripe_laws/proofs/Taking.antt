@@ -17,8 +17,8 @@ use Rattle.zb_holding.specs.Holding.{Maps, Begins, ParityRemains, StripeRemains,
 use Rattle.zb_holding.specs.Carrying.{found}
 use Rattle.zb_stripe.specs.declared.progress.Phase.{Phase}
 use Rattle.zb_stripe.specs.declared.progress.Phase.TheVariants.{Direct, Lengths, Others}
-use Rattle.zb_stripe.specs.Reading.{Reading, asked, Answers, AnswersRetrieve}
-use Rattle.zb_stripe_laws.specs.ReadAtWork.{ReadAtWork, IsNotThere, MayTell}
+use Rattle.zb_stripe.specs.Reading.{Reading, asked, Answers, AnswersRetrieve, IsNotThere}
+use Rattle.zb_stripe_laws.specs.ReadAtWork.{ReadAtWork, MayTell}
 use Rattle.zb_stripe_laws.proofs.Ranges.{length-parity_range}
 
 -- who isn't there may answer any retrieve

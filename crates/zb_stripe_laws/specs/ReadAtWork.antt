@@ -16,7 +16,7 @@ use Rattle.zb_stripe.specs.declared.read.Got.{Got}
 use Rattle.zb_stripe.specs.declared.read.Got.TheVariants as got
 use Rattle.zb_stripe.specs.declared.progress.Phase.{Phase}
 use Rattle.zb_stripe.specs.declared.progress.Phase.TheVariants.{Direct, Lengths, Others}
-use Rattle.zb_stripe.specs.Reading.{Reading, server_at, is_lost, asked, blocked_in, fed, is_more}
+use Rattle.zb_stripe.specs.Reading.{Reading, server_at, is_lost, asked, blocked_in, fed, is_more, IsNotThere, DidNotAnswer, NamesLost}
 
 -- some lists but one
 abbrev pub all_but : (ℕ → List ℕ) → ℕ → ℕ → List ℕ
@@ -165,12 +165,6 @@ TellsOfFragment (told.Parity lengths bytes) = Unit {0}
 TellsOfFragment (told.Refused (fault.Short len)) = Unit {0}
 TellsOfFragment response = ⊥
 
--- a server that is down or blank
-abbrev pub IsNotThere : Response → Type 0
-IsNotThere told.Down = Unit {0}
-IsNotThere told.Blank = Unit {0}
-IsNotThere response = ⊥
-
 -- each server that may be down may answer that it is, and each that is looked at answers from these maps
 abbrev pub AnswersWith : (ServerId → Type 0) → Maps → Option ServerId → Option (ServerId × Request)
     → Response → Type 0
@@ -201,18 +195,6 @@ abbrev pub LacksAsked : Maps → Option (ServerId × Request) → Type 0
 LacksAsked maps (Some (server, ask.Retrieve id place len)) = maps server id ≡ None
 LacksAsked maps request = ⊥
 
--- this server was asked, and is down or blank
-abbrev pub DidNotAnswer : Option (ServerId × Request) → Response → ServerId → Type 0
-DidNotAnswer None response server = ⊥
-DidNotAnswer (Some asked) response server = (server ≡ asked.0) × IsNotThere response
-
--- a server of the stripe that was known to be lost, or was asked now and is down or blank
-pub record IsLost (r : Reading) (response : Response) (server : ServerId) : Type 0 where
-  pub index : ℕ
-  pub below : index < r.servers
-  pub at : server ≡ server_at r index
-  pub lost : (is_lost r index ≡ true) ⊎ DidNotAnswer (asked r) response server
-
 -- a read knows no server as lost but those that were known before, and the one that was asked and is down or blank
 abbrev pub LosesAsked : Reading → Response → Reading → Type 0
 LosesAsked before response r = (k : ℕ) → k < before.servers → is_lost r k ≡ true
@@ -242,7 +224,7 @@ abbrev pub LeadsTo : Maps → Maps → Option ServerId → Option ServerId → �
     → Got → Type 0
 LeadsTo now seen x y end bytes before response r got.More = LeadsOn now seen x y end bytes before response r
 LeadsTo now seen x y end bytes before response r (got.Bytes found) = found ≡ take before.ptr.len (drop before.ptr.offset bytes)
-LeadsTo now seen x y end bytes before response r (got.Unreachable a b) = (a.0 < b.0) × IsLost before response a × IsLost before response b
+LeadsTo now seen x y end bytes before response r (got.Unreachable a b) = NamesLost before (asked before) response (got.Unreachable a b)
 LeadsTo now seen x y end bytes before response r got.Gone = LacksAsked now (asked before)
 LeadsTo now seen x y end bytes before response r (got.Old generation) = response ≡ told.Refused (fault.OldGeneration generation)
 

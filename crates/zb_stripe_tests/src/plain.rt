@@ -6,7 +6,7 @@ ghost use Rattle.zb_plain.specs.Answering.{EndsInRange};
 use std::alloc::Global;
 use std::test::Fail;
 use zb_plain::{PlainServers, fragments_fit_index};
-use zb_stripe::{Flush, Got, Part, PartList};
+use zb_stripe::{Fresh, FreshFlush, FreshList, Got, Part};
 use zb_types::{
     ByteList, Class, FragId, Geometry, LenList, LogId, Mem, Ptr, Request, Response, ServerId,
     StoreFault,
@@ -138,17 +138,18 @@ fn write(servers: &mut PlainServers, alloc: Global, geo: &Geometry, bytes: &[u8]
     ensures count { length servers.new ≡ 3 }
 {
     fragments_fit_index();
-    let mut parts = PartList::new(alloc)?;
-    parts.push(Part {
+    let part = Part {
         stripe: 4,
         begin: 0,
         bytes: ByteList::from_slice(alloc, bytes)?,
-    })?;
-    let flush = Flush {
+    };
+    let mut parts = FreshList::new(alloc)?;
+    parts.push(Fresh::of(alloc, geo, &part)?)?;
+    let fresh = FreshFlush {
         log: LogId(1),
         parts,
     };
-    servers.write(alloc, geo, &flush, Class::Client)
+    servers.write(alloc, geo, &fresh, Class::Client)
 }
 
 #[test]

@@ -2,7 +2,7 @@ ghost use Rattle.std.specs.Prelude.{◌≡◌};
 
 use std::alloc::Global;
 use std::test::Fail;
-use zb_stripe::{Fed, Flush, Part, PartList, WritePlan};
+use zb_stripe::{Fed, Fresh, FreshFlush, FreshList, Part, WritePlan};
 use zb_types::{ByteList, Class, Geometry, LogId, Mem, Response, ServerId, StoreFault};
 
 /// Writes 10 bytes behind the first 250 of a stripe with fragments of 256 bytes.
@@ -10,18 +10,18 @@ fn plan(alloc: Global, geo: &Geometry, out: Option<ServerId>) -> Mem<WritePlan>
     requires servers { geo.now.servers ≡ 3 }
     requires fragment { geo.now.fragment ≡ 256 }
 {
-    let bytes = vec![in alloc; 7u8; 260]?;
-    let mut parts = PartList::new(alloc)?;
-    parts.push(Part {
+    let part = Part {
         stripe: 0,
         begin: 250,
-        bytes: ByteList::of(bytes),
-    })?;
-    let flush = Flush {
+        bytes: ByteList::of(vec![in alloc; 7u8; 260]?),
+    };
+    let mut parts = FreshList::new(alloc)?;
+    parts.push(Fresh::of(alloc, geo, &part)?)?;
+    let fresh = FreshFlush {
         log: LogId(1),
         parts,
     };
-    WritePlan::new(alloc, geo, &flush, out, Class::Client)
+    WritePlan::new(alloc, geo, &fresh, out, Class::Client)
 }
 
 /// Feeds one answer, and gives the server that was asked with what the answer comes to.

@@ -12,3 +12,4 @@ pub mod Once
 pub mod Pointers
 pub mod Retiring
 pub mod Taken
+pub mod First

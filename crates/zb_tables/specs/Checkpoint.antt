@@ -35,14 +35,15 @@ pub record IsFile (z : Sizes) (next : ℕ) (e : ℕ × FileState) : Type 0 where
   pub numbered : (1 ≤ e.0) × (e.0 < next)
   pub version : (1 ≤ (e.1).version) × ((e.1).version ≤ last_value)
   pub short : (e.1).length ≤ max_file
-  pub few : AllByRecursion (λ k. k.0 < 2 ^ 32) (e.1).blocks
+  pub numbers : AllByRecursion (λ k. k.0 < 2 ^ 32) (e.1).blocks
+  pub few : length (e.1).blocks < 2 ^ 32
   pub rising : IsStrictlySortedBy nat_cmp (keys_of (e.1).blocks)
   pub pointers : AllByRecursion (λ k. IsPointer z k.1 × IsPlace k.1) (e.1).blocks
 
 -- a reply to an update
 abbrev pub IsUpdateReply : Reply → Type 0
 IsUpdateReply Done = Unit {0}
-IsUpdateReply (Made fid) = Unit {0}
+IsUpdateReply (Made fid) = fid.0 < 2 ^ 32
 IsUpdateReply (Bytes bytes) = ⊥
 IsUpdateReply (NamesOf names) = ⊥
 IsUpdateReply Dir = ⊥
@@ -57,6 +58,7 @@ pub record IsLog (z : Sizes) (next : ℕ) (held : List HeldUse) (e : ℕ × LogS
   pub last : IfSome (e.1).last (λ stripe. stripe + 1 < 2 ^ 64)
   pub mark : (e.1).mark < 2 ^ 64
   pub replies : AllByRecursion IsUpdateReply (e.1).replies
+  pub few : length (e.1).replies < 2 ^ 32
   pub kept : ((e.1).live ≡ true) ⊎ ((stripe : ℕ) × IsSome (held_at (record { 0 = e.0 }) stripe held))
 
 -- by log and stripe
@@ -67,12 +69,13 @@ held_cmp a b = ordering_then (nat_cmp a.log.0 b.log.0) (nat_cmp a.stripe b.strip
 pub record IsHeld (z : Sizes) (logs : List (ℕ × LogState)) (h : HeldUse) : Type 0 where
   pub log : IsSome (look h.log.0 logs)
   pub stripe : h.stripe < 2 ^ 64
-  pub end : h.end ≤ stripe_room z
+  pub end : (1 ≤ h.end) × (h.end ≤ stripe_room z)
   pub born : (1 ≤ h.born) × (h.born ≤ last_value)
 
 -- the files are those of the names, each named by one path; logs and held stripes are in order; numbers are within their limits
 pub record AreTables (z : Sizes) (t : Tables) : Type 0 where
   pub names : IsTree t.names.next t.names.entries
+  pub next_file : t.names.next ≤ last_number
   pub few : length t.names.entries ≤ max_names
   pub named : IsPermutation (numbers_of t.names) (keys_of t.files)
   pub files_rise : IsStrictlySortedBy nat_cmp (keys_of t.files)

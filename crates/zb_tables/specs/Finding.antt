@@ -20,6 +20,7 @@ abbrev pub found_in : Members → ℕ → ℕ → Option FileState → Found
 found_in members first count None = record { version = 0; length = 0; blocks = []; members = members }
 found_in members first count (Some file) = record { version = file.version; length = file.length; blocks = among first count file.blocks; members = members }
 
+-- what a lookup finds of the blocks with `count` numbers from `first` on of a file
 abbrev pub found : Tables → ℕ → ℕ → ℕ → Found
 found t fid first count = found_in t.members first count (look fid t.files)
 
@@ -33,8 +34,10 @@ live_in log stripe e =
 abbrev pub live : Tables → LogId → ℕ → List Body
 live t log stripe = flat_map (live_in log stripe) t.files
 
+-- a log as a status tells it
 abbrev pub use_of : ℕ × LogState → LogUse
 use_of e = record { log = record { 0 = e.0 }; live = (e.1).live; last = (e.1).last; batch = (e.1).batch }
 
+-- what a status tells
 abbrev pub status : Tables → Status
 status t = record { next = t.next_log; members = t.members; logs = map use_of t.logs; held = t.held }

@@ -46,6 +46,7 @@ pub record Tables : Type 0 where
   pub next_log : ℕ
   pub next_entry : ℕ
 
+-- the tables before the first entry
 abbrev pub first_tables : Tables
 first_tables = record { names = first_names; files = []; logs = []; held = []; members = record { state = Whole; generation = 1 }; next_log = 1; next_entry = 1 }
 
@@ -59,6 +60,7 @@ risen n = if nat_lt n last_value then n + 1 else n
 
 -- Held stripes.
 
+-- is this what is held of that stripe?
 abbrev pub is_of : LogId → ℕ → HeldUse → Bool
 is_of log stripe h = h.log.0 == log.0 && h.stripe == stripe
 
@@ -67,6 +69,7 @@ abbrev pub held_at : LogId → ℕ → List HeldUse → Option HeldUse
 held_at log stripe [] = None
 held_at log stripe (h ∷ hs) = if is_of log stripe h then Some h else held_at log stripe hs
 
+-- the committed end of what was found, 0 where nothing was
 abbrev pub end_of : Option HeldUse → ℕ
 end_of None = 0
 end_of (Some h) = h.end
@@ -94,6 +97,7 @@ block_byte contents (Some p) y = slice_index (bytes_at contents p) y
 abbrev pub file_byte : ℕ → Contents → FileState → ℕ → ℕ
 file_byte b contents file i = block_byte contents (look (i / b) file.blocks) (i % b)
 
+-- the bytes of a file
 abbrev pub shown_bytes : ℕ → Contents → FileState → List ℕ
 shown_bytes b contents file = first_bytes file.length (file_byte b contents file)
 

@@ -22,7 +22,7 @@ use Rattle.zb_entries.specs.declared.entry.Entry.TheVariants.{Attach, Commit, Ma
 use Rattle.zb_tables.specs.Tables.{FileState, LogState, Tables, Contents, EachFile, last_value}
 use Rattle.zb_tables.specs.Fold.{Shelf, Stale, done_op, done_ops, folded, shelf_of}
 use Rattle.zb_tables.specs.Pointing.{AllNow}
-use Rattle.zb_tables.specs.Replay.{IsBatchOf}
+use Rattle.zb_tables.specs.Replay.{IsBatchOf, Platter}
 
 -- the counts of servers and clients, the room of a fragment, and the size of a block
 pub record Sizes : Type 0 where
@@ -58,6 +58,7 @@ pub record MayCommit (z : Sizes) (t : Tables) (batch : Batch) (pieces : List Pie
 
 -- Refusals of a commit.
 
+-- the mark of a log that was found, 0 where there is none
 abbrev pub mark_of : Option LogState → ℕ
 mark_of None = 0
 mark_of (Some l) = l.mark
@@ -72,6 +73,7 @@ abbrev pub regen_of : Tables → LogId → List Piece → ℕ → Option CommitF
 regen_of t log pieces generation =
     if generation == t.members.generation then below_mark (mark_of (look log.0 t.logs)) pieces else Some (Regen generation t.members.generation)
 
+-- the refusal of a batch that is stale
 abbrev pub stale_of : Result Shelf Stale → Option CommitFault
 stale_of (Ok s) = None
 stale_of (Err s) = Some (StaleFault s.fid s.seen s.now)
@@ -81,6 +83,7 @@ abbrev pub is_worn : ℕ → Option FileState → Bool
 is_worn end None = false
 is_worn end (Some file) = file.version == last_value && nat_le end max_file
 
+-- would the operation raise a version past its last value?
 abbrev pub wears : Shelf → Op → Bool
 wears s (Name call what) = false
 wears s (Write call fid version offset len deltas) = is_worn (offset + len) (look fid.0 s.files)
@@ -88,10 +91,12 @@ wears s (Cut call fid version size deltas) = is_worn size (look fid.0 s.files)
 wears s (Sync call) = false
 wears s (Clean deltas) = false
 
+-- a test of what was left, where nothing was stale
 abbrev pub on_done : (Shelf → Bool) → Result Shelf Stale → Bool
 on_done test (Ok s) = test s
 on_done test (Err stale) = false
 
+-- would one of the operations, each where the earlier ones left it?
 abbrev pub any_wears : ℕ → List Op → Shelf → Bool
 any_wears b [] s = false
 any_wears b (o ∷ os) s = wears s o || on_done (any_wears b os) (done_op b s o)
@@ -103,6 +108,7 @@ worn_of b t batch =
     if nat_lt last_value batch.number then Some (Worn 3) else (
     if any_wears b batch.ops (shelf_of t) then Some (Worn 4) else None))
 
+-- the first of two refusals
 abbrev pub or_else : Option CommitFault → Option CommitFault → Option CommitFault
 or_else (Some fault) other = Some fault
 or_else None other = other
@@ -123,14 +129,17 @@ IsAnswer refusal (Err Stopped) = ⊥
 
 -- Entries that the tables can take.
 
+-- one of n servers
 abbrev pub IsServer : ℕ → ServerId → Type 0
 IsServer n s = (1 ≤ s.0) × (s.0 ≤ n)
 
+-- a state that names no server but one of n
 abbrev pub IsState : ℕ → State → Type 0
 IsState n Whole = Unit {0}
 IsState n (Out a) = IsServer n a
 IsState n (Mending a) = IsServer n a
 
+-- another stripe, or one of another log
 abbrev pub IsOther : LogId → ℕ → LogId → ℕ → Type 0
 IsOther log stripe l s = (l.0 ≢ log.0) ⊎ (s ≢ stripe)
 
@@ -156,3 +165,11 @@ AreTaken z contents before t [] after = t ≡ after
 AreTaken z contents before t (e ∷ es) after =
     (batch : Batch) × IsBatchOf contents e batch × IsTaken z before t e batch
     × ((mid : Tables) × (folded z.block t e batch ≡ Some mid) × AreTaken z contents (before ++ e ∷ []) mid es after)
+
+-- what stands for the batch of an entry that has none
+abbrev pub no_batch : Batch
+no_batch = record { log = record { 0 = 0 }; number = 0; ops = [] }
+
+-- the tables, behind the platter's entries, can take an entry without a batch
+abbrev pub CanTake : Sizes → Platter → Tables → Entry → Type 0
+CanTake z p tables e = IsTaken z p.entries tables e no_batch

@@ -9,7 +9,7 @@ ghost use Rattle.zb_delta.specs.declared.delta.Delta.{Delta};
 ghost use Rattle.zb_batch.specs.declared.batch.Batch.{Batch};
 ghost use Rattle.zb_batch.specs.declared.batch.Op.{Op};
 ghost use Rattle.zb_entries.specs.declared.entry.Entry.{Entry};
-ghost use Rattle.zb_tables.specs.Tables.{Contents, EachFile, EndsInFile, FileState, PointsIn, SameIn, Tables, head_of, shown_bytes, shown_tree};
+ghost use Rattle.zb_tables.specs.Tables.{Contents, EachFile, EndsInFile, FileState, PointsIn, SameIn, Tables, first_tables, head_of, shown_bytes, shown_tree};
 ghost use Rattle.zb_tables.specs.Fold.{Files, Shelf, after_cut, all_moved, done_ops, folded, retired};
 ghost use Rattle.zb_tables.specs.Spelled.{Merged, OpsAre};
 ghost use Rattle.zb_tables.specs.Looking.{IsCurrent, MergedFrom};
@@ -17,6 +17,7 @@ ghost use Rattle.zb_tables.specs.Pointing.{AllCopies, OpsLie};
 ghost use Rattle.zb_tables.specs.Replay.{EntriesIn, IsBatchOf, Replays, held_all, members_after};
 ghost use Rattle.zb_tables.specs.Taking.{AreTaken, IsTaken, PointsElsewhere, Sizes};
 ghost use Rattle.zb_tables.specs.Shown.{Shows};
+ghost use Rattle.zb_tables.specs.Checkpoint.{AreTables};
 ghost use Rattle.zb_tables.specs.Tail.{tail_contents, tail_file};
 
 /// A batch that is made of updates isn't stale, shows what the updates leave, and has their replies.
@@ -86,4 +87,9 @@ pub fn pointers_stay_in_what_is_held()
         → EachFile (PointsIn held) s.files → OpsLie held ops → done_ops b ops s ≡ Ok after → EachFile (PointsIn held) after.files }
     ensures retire { (held : List HeldUse) (log : LogId) (stripe : ℕ) (files : Files)
         → EachFile (PointsElsewhere log stripe) files → EachFile (PointsIn held) files → EachFile (PointsIn (retired log stripe held)) files }
+{}
+
+/// The tables before the first entry are those of a checkpoint.
+pub fn first_tables_are_of_a_checkpoint()
+    ensures { (z : Sizes) → AreTables z first_tables }
 {}

@@ -1,5 +1,6 @@
 use Rattle.std.proofs.Common.{refl, sym, ◌∙◌, arith}
 use Rattle.zb_cell.proofs.Steps.{Change, chosen, to_read, to_close, is_shut, to_fill, is_filled, to_open, is_new, is_written, set_failed, to_ready, read_same, copy_ext, turn_ext, gate_ext, all_writes, no_writes}
+use Rattle.zb_outside.proofs.Runs.{run_spares, others_then}
 use Rattle.zb_outside.proofs.Touching.{touches_then, touches_less}
 use Rattle.zb_cell.proofs.cell.set.Goals as goal
 
@@ -93,3 +94,21 @@ returns-clause-written g c told =
     let same = read_same c.read_at.new.buf was c.args.place c.read_at.auto.buf (c.in_ok-read_at.ensures.told told).read in
     let gate = gate_ext c.read_at.new.buf was c.args.place _ _ same c.work_on-work.ensures.place c.work_on-work.ensures.works.0 in
     rw (← gate, ← no_writes c.in_ok-read_at.ensures.touches) (all_writes c.work_on-work.result.is_open _ _ _ _ c.in_ok-close_gate.ensures.written c.in_ok-write_synced.ensures.written c.in_ok-write_synced-2.ensures.written)
+
+pub returns-in_err-read_at-clause-others : goal.returns-in_err-read_at-clause-others
+returns-in_err-read_at-clause-others g c told = run_spares (c.read_at.ensures.told told).ticks
+
+pub returns-in_err-close_gate-clause-others : goal.returns-in_err-close_gate-clause-others
+returns-in_err-close_gate-clause-others g c told = others_then (run_spares (c.read_at.ensures.told told).ticks) (c.close_gate.ensures.others told)
+
+pub returns-in_err-write_synced-clause-others : goal.returns-in_err-write_synced-clause-others
+returns-in_err-write_synced-clause-others g c told =
+    others_then (others_then (run_spares (c.read_at.ensures.told told).ticks) (c.close_gate.ensures.others told)) (c.write_synced.ensures.others told)
+
+pub returns-in_err-write_synced-2-clause-others : goal.returns-in_err-write_synced-2-clause-others
+returns-in_err-write_synced-2-clause-others g c told =
+    others_then (others_then (others_then (run_spares (c.read_at.ensures.told told).ticks) (c.close_gate.ensures.others told)) (c.write_synced.ensures.others told)) (c.write_synced-2.ensures.others told)
+
+pub returns-clause-others : goal.returns-clause-others
+returns-clause-others g c told =
+    others_then (others_then (others_then (run_spares (c.read_at.ensures.told told).ticks) (c.close_gate.ensures.others told)) (c.write_synced.ensures.others told)) (c.write_synced-2.ensures.others told)

@@ -1,4 +1,4 @@
-use Rattle.std.proofs.Common.{◌∙◌, length, Option, None, Some, sym, ap, subst}
+use Rattle.std.proofs.Common.{◌∙◌, length, Option, Some, sym, ap, subst}
 use Rattle.std.proofs.lemmas.Option.{none-some}
 use Rattle.zb_slots.specs.declared.header.Header.{Header}
 use Rattle.zb_slots.specs.Holding.{named}

@@ -4,7 +4,9 @@ use Rattle.zb_holding.specs.Rules.{IsServed}
 use Rattle.zb_fragstore.specs.Seen.{holding}
 use Rattle.zb_fragstore.specs.Changing.{map_in}
 use Rattle.zb_fragstore.proofs.Outlined.{refusal_is}
-use Rattle.zb_server.proofs.Answered.{Said, carried, may_answer, served_by, done_by, fence_kept, fence_grown, fence_raised, free_raised, free_less, free_parity}
+use Rattle.zb_outside.proofs.Runs.{run_spares}
+use Rattle.zb_server.proofs.Sized.{share_sized, parity_sized, gone_sized, grown_sized, raised_sized, sizes_left}
+use Rattle.zb_server.proofs.Answered.{Said, runs_too, carried, may_answer, served_by, done_by, fence_kept, fence_grown, fence_raised, free_raised, free_less, free_parity}
 use Rattle.zb_server.proofs.Behind.{answers_append}
 use Rattle.zb_server.proofs.Looking.{retrieved, named, named_known}
 use Rattle.zb_server.proofs.Refused.{not_called, refused_look, append_look}
@@ -108,3 +110,42 @@ returns-in-Identify-clause-looked g c tells is_open fault some = not_called c.ar
 pub returns-in-Fence-clause-looked : goal.returns-in-Fence-clause-looked
 returns-in-Fence-clause-looked g c tells is_open =
     rw c.in-Fence.is (refused_look _ g.B.Bay.meaning c.args.bay.now _ (ask.Fence c.in-Fence.generation) c.args.generation c.args.store.now is_open _ c.fence.ensures.refused c.fence.ensures.still)
+
+pub returns-in-Store-clause-sizes : goal.returns-in-Store-clause-sizes
+returns-in-Store-clause-sizes g c =
+    let fits = rw c.in-Store.is at c.requires in
+    rw (c.in-Store.is, ← c.slice.ensures, c.done.ensures)
+    (λ runs. sizes_left (ask.Store c.in-Store.id c.slice.result.now c.in-Store.class) _ _ c.store.result (share_sized _ _ c.store.ensures.system c.store.result c.in-Store.id _ fits.0 c.store.ensures.stored) c.store.ensures.same (runs_too c.store.result runs))
+
+pub returns-in-Append-clause-sizes : goal.returns-in-Append-clause-sizes
+returns-in-Append-clause-sizes g c =
+    rw (c.in-Append.is, ← c.slice-in-Append.ensures, c.done-in-Append.ensures)
+    (λ runs. sizes_left (ask.Append c.in-Append.id c.in-Append.place c.slice-in-Append.result.now) _ _ c.append.result (grown_sized _ _ c.append.ensures.system c.append.result c.in-Append.id _ _ c.append.ensures.grown) c.append.ensures.same (runs_too c.append.result runs))
+
+pub returns-in-Parity-clause-sizes : goal.returns-in-Parity-clause-sizes
+returns-in-Parity-clause-sizes g c =
+    let fits = rw (c.in-Parity.is, ← c.slice-lengths.ensures) at c.requires in
+    rw (c.in-Parity.is, ← c.slice-lengths.ensures, ← c.slice-bytes.ensures, c.done-in-Parity.ensures)
+    (λ runs. sizes_left (ask.Parity c.in-Parity.id c.slice-lengths.result.now c.slice-bytes.result.now c.in-Parity.class) _ _ c.replace_parity.result
+    (parity_sized _ _ c.replace_parity.ensures.system c.replace_parity.result c.in-Parity.id _ _ fits.0 fits.1.0 c.replace_parity.ensures.stored) c.replace_parity.ensures.same (runs_too c.replace_parity.result runs))
+
+pub returns-in-Delete-clause-sizes : goal.returns-in-Delete-clause-sizes
+returns-in-Delete-clause-sizes g c =
+    rw (c.in-Delete.is, c.done-in-Delete.ensures)
+    (λ runs. sizes_left (ask.Delete c.in-Delete.id) _ _ c.delete.result (gone_sized _ _ c.delete.ensures.system c.delete.result c.in-Delete.id c.delete.ensures.deleted) c.delete.ensures.same (runs_too c.delete.result runs))
+
+pub returns-in-Fence-clause-sizes : goal.returns-in-Fence-clause-sizes
+returns-in-Fence-clause-sizes g c =
+    rw (c.in-Fence.is, c.done-in-Fence.ensures)
+    (λ runs. sizes_left (ask.Fence c.in-Fence.generation) c.args.store.now c.fence.new.self c.fence.result (raised_sized c.in-Fence.generation c.args.store.now c.fence.new.self c.fence.result c.fence.ensures.raised) c.fence.ensures.same (runs_too c.fence.result runs))
+
+pub returns-in-Retrieve-clause-sizes : goal.returns-in-Retrieve-clause-sizes
+returns-in-Retrieve-clause-sizes g c =
+    rw (c.in-Retrieve.is, c.retrieve.ensures.same) (λ runs. record { done = λ e q. refl; same = λ e q. refl })
+
+pub returns-in-Identify-clause-sizes : goal.returns-in-Identify-clause-sizes
+returns-in-Identify-clause-sizes g c =
+    rw c.in-Identify.is (λ runs. record { done = λ e q. refl; same = λ e q. refl })
+
+pub returns-in-Retrieve-clause-others : goal.returns-in-Retrieve-clause-others
+returns-in-Retrieve-clause-others g c tells = run_spares (c.retrieve.ensures.told tells).run

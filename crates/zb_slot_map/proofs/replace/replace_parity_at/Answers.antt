@@ -6,6 +6,7 @@ use Rattle.zb_slots.specs.Changing.{parity_slot, SlotTold}
 use Rattle.zb_slots.specs.Slots.{Slot, Stored}
 use Rattle.zb_slots.specs.Area.{lengths_in}
 use Rattle.zb_slots.specs.Slots.{slots_in}
+use Rattle.zb_outside.proofs.Runs.{others_then}
 use Rattle.zb_outside.proofs.Touching.{touches_then}
 use Rattle.zb_slot_map.proofs.Knowing.{ready_at, slot_at}
 use Rattle.zb_slot_map.proofs.Replacing.{MayReplace}
@@ -31,8 +32,8 @@ returns-in_err-store_parity-clause-told g c told kept covered bytes was is_free 
       one = refl;
       small = c.requires.turn;
       follows = refl;
-      first = tt;
-      other = tt;
+      first = refl;
+      other = refl;
     } in
     let now = (g.B.Bay.meaning c.args.bay.now) in
     let this : ℕ → Slot = λ turn. parity_slot c.args.id turn (lengths_in (geo.servers - 1) c.args.area.now) (drop 64 c.args.area.now) in
@@ -60,8 +61,8 @@ returns-clause-told g c told kept covered bytes was is_free =
       one = refl;
       small = c.requires.turn;
       follows = refl;
-      first = tt;
-      other = tt;
+      first = refl;
+      other = refl;
     } in
     let now = (g.B.Bay.meaning c.args.bay.now) in
     let this : ℕ → Slot = λ turn. parity_slot c.args.id turn (lengths_in (geo.servers - 1) c.args.area.now) (drop 64 c.args.area.now) in
@@ -72,3 +73,6 @@ returns-clause-told g c told kept covered bytes was is_free =
 pub returns-clause-touches : goal.returns-clause-touches
 returns-clause-touches g c =
     touches_then g.B.Bay.counts g.B.Bay.follows g.met.B.Bay.follows_then c.in_ok-store_parity.ensures.touches c.free.ensures.touches
+
+pub returns-clause-others : goal.returns-clause-others
+returns-clause-others g c told = others_then (c.in_ok-store_parity.ensures.others told) (c.free.ensures.others told)

@@ -8,7 +8,7 @@ is_area : (lengths bytes head : List ℕ) → length lengths ≤ 16 → lengths_
 is_area lengths bytes head few is none size =
     let same : (i : ℕ) → i < 64 → slice_index (head ++ bytes) i ≡ slice_index head i = λ i lt. get_or_append_left head bytes 0 i (omega arith) in
     record {
-      head = numbers_ext (slice_index (head ++ bytes)) (slice_index head) 0 (length lengths) (λ i lt. same i (omega arith)) ∙ is;
+      head = numbers_ext (slice_index (head ++ bytes)) (slice_index head) 0 (length lengths) (λ i le lt. same i (omega arith)) ∙ is;
       zeros = λ i le lt. same i lt ∙ none i le;
       body = drop_at head bytes 64 size;
       size = length-append head bytes ∙ omega arith;

@@ -1,4 +1,4 @@
-use Rattle.std.proofs.Common.{rules, ◌+◌, ◌-◌, ◌≤◌, ℕ, IsTrue, List, length, take, drop, refl, sym, subst, ◌∙◌, arith}
+use Rattle.std.proofs.Common.{rules, ◌+◌, ◌-◌, ◌≤◌, ℕ, IsTrue, List, length, take, drop, refl, sym, subst, arith}
 use Rattle.zb_outside.specs.Ranges.{Reads}
 use Rattle.zb_slots.proofs.Leaving.{left_then}
 use Rattle.zb_slots.proofs.Chunks.{more_there, not_there}

@@ -1,5 +1,3 @@
-use Rattle.std.proofs.Common.{inl, inr}
-use Rattle.zb_tables.specs.Fold.{committed}
 use Rattle.zb_sound.proofs.Committing.{commit_takes}
 use Rattle.zb_sound.proofs.Rebasing.{contents_agree}
 use Rattle.zb_sound.proofs.commits.commit_may_be_cut_off.Goals as goal
@@ -7,4 +5,4 @@ use Rattle.zb_sound.proofs.commits.commit_may_be_cut_off.Goals as goal
 pub returns : goal.returns
 returns c z contents new p st log number generation pieces batch tables tree updates s pos flushed are =
     let r = commit_takes z contents new p st log number generation pieces batch pos tables tree s flushed updates are in
-    (inl (tables, contents_agree z contents new p st tables tree s flushed.same), inr (committed tables log number pieces r.commits.after, r.commits.stands))
+    (contents_agree z contents new p st tables tree s flushed.same, (r.commits.after, r.commits.stands))

@@ -1,4 +1,5 @@
 use Rattle.std.proofs.Common.{ap, sym, ◌∙◌}
+use Rattle.zb_outside.proofs.Runs.{run_spares, others_then}
 use Rattle.zb_fragstore.specs.Seen.{SeenStore}
 use Rattle.zb_fragstore.proofs.store.FragStore.append_at_spot.Goals.{then-place-spot-via-then-place-spot, then-place-spot-via-else-place-spot+then-not-is_share}
 use Rattle.zb_fragstore.proofs.Answered.{looked_ok, StandsClause, stands_is, answer_kept, kept_told, answer_misplaced, answer_put, put_fits, put_told, stopped_told}
@@ -53,3 +54,8 @@ returns-then-place-spot-clause-looked g c tells is_open fragment holds fault som
 pub returns-clause-looked : goal.returns-clause-looked
 returns-clause-looked g c tells is_open fragment holds fault some =
     absurd (put_fits _ (g.B.Bay.meaning c.args.bay.now) _ _ _ _ is_open c.requires.there ⊥ (sym c.is_share.ensures ∙ c.if-not-is_share.false) c.if-place-spot.false fragment holds fault some)
+
+pub returns-clause-others : goal.returns-clause-others
+returns-clause-others g c tells =
+    let looked = rw c.platter.ensures at (c.stands_at-stands.ensures.told tells) in
+    others_then (run_spares looked.run) (c.put_behind.ensures.others tells)

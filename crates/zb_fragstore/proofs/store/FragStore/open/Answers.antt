@@ -1,5 +1,7 @@
 use Rattle.std.proofs.Common.{ℕ, ◌*◌, true, false, List, length, refl, ap, subst, arith}
 use Rattle.zb_outside.specs.Counts.{Touches}
+use Rattle.zb_outside.specs.Runs.{SparesOthers}
+use Rattle.zb_outside.proofs.Runs.{run_spares, others_then}
 use Rattle.zb_outside.proofs.Touching.{touches_then, touches_less}
 use Rattle.zb_fragstore.specs.Opening.{IsUnfit}
 use Rattle.zb_slots.proofs.Leaving.{left_by_held}
@@ -60,3 +62,13 @@ returns-clause-touches g c =
     let read = subst (λ (q : ℕ). Touches g.B.Bay.counts g.B.Bay.follows q 0 false c.fence_of.new.bay c.read_index.new.bay) c.from-platter.ensures c.in_ok-built.ensures.touches in
     touches_less g.B.Bay.counts g.B.Bay.follows (omega (arith, ap (λ (l : List ℕ). length l) c.slice.ensures, c.in_ok-built.ensures.few)) (λ h. h)
     (touches_then g.B.Bay.counts g.B.Bay.follows leads (touches_then g.B.Bay.counts g.B.Bay.follows leads c.in_ok-fence.ensures.touches read) here)
+
+pub returns-in_err-free_older-clause-others : goal.returns-in_err-free_older-clause-others
+returns-in_err-free_older-clause-others g c tells =
+    let looked = left_alone c.args.geo.now c.args.server c.in_ok-fence.fence c.from-platter.result _ _ (c.fence_of.ensures.told tells) (c.in_ok-fence.ensures.found tells) c.from-platter.ensures _ (c.read_index.ensures.told tells) in
+    others_then (run_spares looked.run) (subst (λ (q : ℕ). SparesOthers q (g.B.Bay.meaning c.read_index.new.bay) (g.B.Bay.meaning c.free_older.new.bay)) c.from-platter.ensures (c.free_older.ensures.others tells))
+
+pub returns-clause-others : goal.returns-clause-others
+returns-clause-others g c tells =
+    let looked = left_alone c.args.geo.now c.args.server c.in_ok-fence.fence c.from-platter.result _ _ (c.fence_of.ensures.told tells) (c.in_ok-fence.ensures.found tells) c.from-platter.ensures _ (c.read_index.ensures.told tells) in
+    others_then (run_spares looked.run) (subst (λ (q : ℕ). SparesOthers q (g.B.Bay.meaning c.read_index.new.bay) (g.B.Bay.meaning c.free_older.new.bay)) c.from-platter.ensures (c.free_older.ensures.others tells))

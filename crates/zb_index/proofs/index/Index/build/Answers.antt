@@ -1,4 +1,4 @@
-use Rattle.std.proofs.Common.{◌≡◌, length, Option, Some, Result, Ok, Err, IfOk, sym, ◌∙◌, ap, subst}
+use Rattle.std.proofs.Common.{◌≡◌, length, Option, Result, Ok, Err, IfOk, sym, subst}
 use Rattle.std.specs.Prelude.{IfSome}
 use Rattle.std.specs.Result.{result_ok}
 use Rattle.zb_index.specs.Gathering.{AreGathered}

@@ -12,3 +12,4 @@ pub mod Stripes
 pub mod LogPlaces
 pub mod Mapping
 pub mod Changes
+pub mod Preparing

@@ -1,5 +1,5 @@
 -- Logs by number: a search by halves, and what is found and replaced.
-use Rattle.std.proofs.Common.{◌≡◌, ℕ, zero, suc, ◌+◌, ◌-◌, ◌<◌, ◌≤◌, List, [], ◌∷◌, length, get_or, set, Option, Some, None, refl, sym, ap, subst, inl, inr, arith}
+use Rattle.std.proofs.Common.{◌≡◌, ℕ, zero, suc, ◌+◌, ◌<◌, ◌≤◌, List, [], ◌∷◌, length, get_or, set, Option, Some, None, refl, sym, ap, subst, inl, inr, arith}
 use Rattle.std.specs.List.{AllByRecursion}
 use Rattle.std.specs.List.Sorted.{IsStrictlySortedBy}
 use Rattle.std.specs.Map.{keys_of}
@@ -10,11 +10,11 @@ use Rattle.zb_types.specs.Keyed.{look, replaced}
 use Rattle.zb_types.proofs.KeyedLists.{KeysAbove, IsRising, IsRising-from_ordered, look-below}
 use Rattle.zb_tables.specs.Tables.{LogState}
 use Rattle.zb_manager.specs.declared.log.Log.{Log}
-use Rattle.std.specs.Prelude.{max, ◌++◌}
+use Rattle.std.specs.Prelude.{◌++◌}
 use Rattle.std.specs.declared.cmp.Ordering.TheVariants.{Less}
 use Rattle.zb_types.specs.declared.ids.Piece.{Piece}
 use Rattle.zb_tables.specs.Tables.{last_value}
-use Rattle.zb_tables.specs.Fold.{following, last_of}
+use Rattle.zb_tables.specs.Fold.{last_of, later}
 use Rattle.zb_manager.specs.Logs.{IsPlace, IsLast, AreLogs, StripeFits, state_of, states_of}
 
 abbrev Keyed : Type 0
@@ -122,13 +122,13 @@ set_lasts [] i m all this = tt
 set_lasts (l ∷ ls) zero m all this = (this, all.1)
 set_lasts (l ∷ ls) (suc i) m all this = (all.0, set_lasts ls i m all.1 this)
 
-greater_fits : (last : Option ℕ) (stripe : ℕ) → IsLast last → stripe ≤ last_value → IsLast (Some (max stripe (following last - 1)))
-greater_fits None stripe this fits = omega arith
-greater_fits (Some n) stripe this fits = omega arith
+greater_fits : (last : Option ℕ) (stripe : ℕ) → IsLast last → stripe ≤ last_value → IsLast (Some (later stripe last))
+greater_fits None stripe this le = omega arith
+greater_fits (Some l) stripe this le = omega arith
 
 pub last_fits : (last : Option ℕ) (ps : List Piece) → IsLast last → AllByRecursion StripeFits ps → IsLast (last_of last ps)
 last_fits last [] this all = this
-last_fits last (p ∷ ps) this all = last_fits (Some (max p.stripe (following last - 1))) ps (greater_fits last p.stripe this all.0) all.1
+last_fits last (p ∷ ps) this all = last_fits (Some (later p.stripe last)) ps (greater_fits last p.stripe this all.0) all.1
 
 pub no_logs : AreLogs []
 unfolding IsStrictlySortedBy
@@ -162,6 +162,6 @@ lasts_more (m ∷ ls) l all this = (all.0, lasts_more ls l all.1 this)
 pub logs_more : (ls : List Log) (l : Log) → AreLogs ls → AllByRecursion (λ k. k < l.number) (keys_of (states_of ls)) → IsLast l.last → AreLogs (ls ++ l ∷ [])
 logs_more ls l are all this = record {
   rising = subst (λ es. IsStrictlySortedBy nat_cmp (keys_of es)) (sym (states_more ls l))
-    (ordered_from (states_of ls ++ (l.number, state_of l) ∷ []) (rising_more (states_of ls) l.number (state_of l) (IsRising-from_ordered (states_of ls) are.rising) all));
+      (ordered_from (states_of ls ++ (l.number, state_of l) ∷ []) (rising_more (states_of ls) l.number (state_of l) (IsRising-from_ordered (states_of ls) are.rising) all));
   last = lasts_more ls l are.last this;
 }

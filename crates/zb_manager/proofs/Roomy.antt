@@ -1,8 +1,7 @@
 -- Room for each of some steps or moves, made one behind the other.
-use Rattle.std.proofs.Common.{◌≡◌, ℕ, zero, suc, ◌+◌, ◌<◌, ◌≤◌, Bool, true, false, List, [], ◌∷◌, length, get_or, Option, Some, None, refl, sym, ap, ◌∙◌, subst, inl, inr, arith}
+use Rattle.std.proofs.Common.{◌≡◌, ℕ, zero, suc, ◌+◌, ◌<◌, ◌≤◌, Bool, true, List, [], ◌∷◌, length, get_or, Option, refl, sym, ap, ◌∙◌, subst, inl, inr, arith}
 use Rattle.std.specs.Prelude.{IsSomeAnd, if◌then◌else◌, ◌==◌}
 use Rattle.std.proofs.lemmas.Bool.{cases_eq, cases_Bool, ne_eqb, eq-eqb}
-use Rattle.zb_types.specs.Keyed.{look}
 use Rattle.zb_delta.specs.declared.delta.Delta.{Delta}
 use Rattle.zb_delta.specs.Spelling.{body_of}
 use Rattle.zb_pointers.specs.Seen.{SeenPointers, HasRoom, KeepsRoom, SameRooms}

@@ -1,17 +1,14 @@
 -- What contracts see of the file manager.
-use Rattle.std.specs.Prelude.{◌≡◌, ℕ, ◌+◌, ◌≤◌, List, [], ◌∷◌, length, Option, Some, None, Result, Ok}
+use Rattle.std.specs.Prelude.{◌≡◌, ℕ, ◌+◌, ◌≤◌, List, [], ◌∷◌, length, Option, Some, None, Ok}
 use Rattle.std.specs.List.{AllByRecursion}
-use Rattle.zb_types.specs.declared.ids.LogId.{LogId}
 use Rattle.zb_types.specs.declared.ids.Piece.{Piece}
 use Rattle.zb_types.specs.declared.calls.Reply.{Reply}
-use Rattle.zb_types.specs.declared.nodes.Members.{Members}
-use Rattle.zb_types.specs.Keyed.{look}
 use Rattle.zb_delta.specs.declared.delta.Delta.{Delta}
 use Rattle.zb_batch.specs.declared.batch.Batch.{Batch}
 use Rattle.zb_batch.specs.declared.batch.Op.{Op}
-use Rattle.zb_batch.specs.declared.batch.Op.TheVariants.{Name, Write, Cut, Sync, Clean}
-use Rattle.zb_tables.specs.Tables.{LogState, Tables, risen}
-use Rattle.zb_tables.specs.Fold.{Files, Shelf, Stale, shelf_of, done_ops, committed, all_marked}
+use Rattle.zb_batch.specs.declared.batch.Op.TheVariants.{Clean}
+use Rattle.zb_tables.specs.Tables.{LogState, Tables}
+use Rattle.zb_tables.specs.Fold.{Shelf, shelf_of, done_ops, committed}
 use Rattle.zb_pointers.specs.Seen.{SeenPointers}
 use Rattle.zb_manager.specs.Managers.{SeenManager}
 use Rattle.zb_manager.specs.HeldStripes.{EndFits}
@@ -58,10 +55,7 @@ pub record IsPrepared (b : ℕ) (t : Tables) (batch : Batch) (pieces : List Piec
   pub copied_is : p.copied ≡ copied (moves_of batch.ops) t.files
   pub rejected_is : p.copied + p.rejected ≡ length (moves_of batch.ops)
 
--- the tables with other members
-abbrev pub with_members : Tables → Members → Tables
-with_members t members = record t { logs = all_marked members.state t.logs; members = members; next_entry = risen t.next_entry }
-
+-- the number and the replies of the last batch of a log that was found
 abbrev pub last_in : Option LogState → Option (ℕ × List Reply)
 last_in None = None
 last_in (Some l) = Some (l.batch, l.replies)

@@ -3,7 +3,7 @@ ghost use Rattle.std.specs.Option.{option_copied};
 ghost use Rattle.std.specs.Map.{keys_of};
 ghost use Rattle.std.specs.List.{AllByRecursion};
 ghost use Rattle.zb_types.specs.Keyed.{look, changed};
-ghost use Rattle.zb_tables.specs.Fold.{ended, following as stripe_behind, kept_logs, last_of as last_with, marked, new_log, with_batch};
+ghost use Rattle.zb_tables.specs.Fold.{ended, following as stripe_behind, kept_logs, last_of as last_with, later, marked, new_log, with_batch};
 ghost use Rattle.zb_tables.specs.Finding.{use_of};
 ghost use Rattle.zb_manager.specs.declared.log.Log.{Log};
 ghost use Rattle.zb_manager.specs.Logs.{IsLast, IsPlace, StripeFits, ended_log, marked_log, state_of, states_of};
@@ -27,7 +27,7 @@ fn following(last: Option<u64>) -> u64
 
 // The greater of a last stripe, if there is one, and another.
 fn greater(last: Option<u64>, stripe: u64) -> u64
-    ensures { result ≡ max stripe (stripe_behind last - 1) }
+    ensures { result ≡ later stripe last }
 {
     match last {
         None => stripe,

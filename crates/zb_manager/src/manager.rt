@@ -1,26 +1,26 @@
-ghost use Rattle.std.specs.Prelude.{◌≡◌, ◌≢◌, ◌≤◌, ◌<◌, [], IfOk, IfErr, OnOk, OnErr, option_map, Some, None};
+ghost use Rattle.std.specs.Prelude.{◌≡◌, ◌≢◌, ◌≤◌, ◌<◌, ◌^◌, [], IfOk, IfErr, OnOk, OnErr, option_map, Some, None};
 ghost use Rattle.zb_types.specs.Names.{last_number};
 ghost use Rattle.zb_types.specs.Keyed.{look};
 ghost use Rattle.zb_tables.specs.Tables.{first_tables, risen as next_value};
-ghost use Rattle.zb_tables.specs.Fold.{Shelf, after_retire, attached, shelf_of};
-ghost use Rattle.zb_tables.specs.Taking.{IsAnswer, MayCommit, below_mark as first_below, commit_refusal, regen_of};
+ghost use Rattle.zb_tables.specs.Fold.{after_retire, attached, shelf_of, with_members};
+ghost use Rattle.zb_tables.specs.Taking.{IsAnswer, MayCommit, below_mark as first_below, commit_refusal, regen_of, stripe_room};
 ghost use Rattle.zb_tables.specs.Finding.{found, live, status};
 ghost use Rattle.std.specs.List.{AllByRecursion};
 ghost use Rattle.zb_manager.specs.Drafts.{IsFileOp};
 ghost use Rattle.zb_manager.specs.Works.{MayWork, RoomForWork};
 ghost use Rattle.zb_manager.specs.Plans.{IsMovePlan, IsWork, Plans, worn_field};
 ghost use Rattle.zb_manager.specs.Managers.{IsFreeFor, SameBesides, SameTables, sizes_of};
-ghost use Rattle.zb_manager.specs.Seen.{IsPrepared, IsReady, last_in, pointers_of, prepared_tables, with_members, with_work};
+ghost use Rattle.zb_manager.specs.Seen.{IsPrepared, IsReady, last_in, pointers_of, prepared_tables, with_work};
 
-use crate::drafts::{StaleOp, plan_files};
 use crate::cleaning::plan_moves;
+use crate::drafts::{StaleOp, plan_files};
 use crate::held::HeldTable;
 use crate::log::ReplyList;
 use crate::logs::LogTable;
-use crate::prepared::Prepared;
-use crate::work::{Step, StepList, Work};
 use crate::planning::{Plan, plan_name};
+use crate::prepared::Prepared;
 use crate::reserving::room_for_work;
+use crate::work::{Step, StepList, Work};
 use crate::working::{run_moves, run_steps};
 use std::alloc::Global;
 use std::collections::BTreeMap;
@@ -31,8 +31,8 @@ use zb_delta::{Body, Delta, DeltaList};
 use zb_names::Names;
 use zb_pointers::{FileHead, Pointers};
 use zb_types::{
-    CommitFault, Fid, Found, Geometry, HeldList, HeldUse, LogId, LogUse,
-    LogUseList, Mem, Members, NoMemory, Piece, PieceList, Ptr, Reply, State, Status,
+    CommitFault, Fid, Found, Geometry, HeldList, HeldUse, LogId, LogUse, LogUseList, Mem, Members,
+    NoMemory, Piece, PieceList, Ptr, Reply, State, Status,
 };
 
 /// The last value of a number that rises.
@@ -171,7 +171,11 @@ impl Manager {
         match first {
             Op::Name { what, .. } => Ok(Ok(plan_name(alloc, &self.names, what)?)),
             Op::Clean { deltas } => Ok(Ok(plan_moves(alloc, &self.pointers, deltas)?)),
-            Op::Write { .. } | Op::Cut { .. } | Op::Sync { .. } => plan_files(alloc, &self.pointers, ops),
+            Op::Write { .. } | Op::Cut { .. } | Op::Sync { .. } => plan_files(
+                alloc,
+                &self.pointers,
+                ops,
+            ),
         }
     }
 
@@ -179,6 +183,7 @@ impl Manager {
         ensures same { SameTables self.old self.new }
         ensures work { OnOk result (RoomForWork (pointers_of self.new) work.now) }
         ensures held { OnOk result (pieces ≤ self.new.held_room) }
+        ensures small { stripe_room self.old.sizes < 2 ^ 32 }
     {
         room_for_work(alloc, &mut self.pointers, work)?;
         self.held.reserve(pieces)

@@ -1,7 +1,6 @@
 use crate::log::ReplyList;
 use crate::work::Work;
-use zb_types::PieceList;
-use zb_types::LogId;
+use zb_types::{LogId, PieceList};
 
 /// A batch that can be committed without memory.
 #[derive(Drop)]

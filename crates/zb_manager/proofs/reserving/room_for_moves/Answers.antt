@@ -1,4 +1,3 @@
-use Rattle.std.proofs.Common.{◌≡◌}
 use Rattle.zb_manager.proofs.Roomy.{move_next, moves_room}
 use Rattle.zb_manager.proofs.reserving.room_for_moves.Goals as goal
 

@@ -12,7 +12,7 @@ invariant_of-self c =
     let rising = rising_from hs c.self.invariant in
     let lt : c.place-i.result < length hs = subst (λ (s : SeenHeld). c.place-i.result < length s.stripes) (sym c.self.view_is) (c.is_at.ensures.there c.if-is_at.true) in
     let now = c.remove.ensures.items ∙ remove_retires c.args.log c.args.stripe hs c.place-i.result c.remove.result rising lt (place_of hs c.args.log c.args.stripe c.place-i.result (subst (λ (s : SeenHeld). IsPlace s.stripes c.args.log c.args.stripe c.place-i.result) (sym c.self.view_is) c.place-i.ensures.place))
-        (sym ((subst (λ (s : SeenHeld). (d : HeldUse) → c.place-i.result < length s.stripes → c.is_at.result ≡ is_of c.args.log c.args.stripe (get_or s.stripes c.place-i.result d)) (sym c.self.view_is) c.is_at.ensures.is) c.remove.result lt) ∙ c.if-is_at.true) in
+    (sym ((subst (λ (s : SeenHeld). (d : HeldUse) → c.place-i.result < length s.stripes → c.is_at.result ≡ is_of c.args.log c.args.stripe (get_or s.stripes c.place-i.result d)) (sym c.self.view_is) c.is_at.ensures.is) c.remove.result lt) ∙ c.if-is_at.true) in
     subst IsInOrder (sym now) (order_from (retired c.args.log c.args.stripe hs) (rising_filter _ hs rising))
 
 pub returns-then-is_at-clause-stripes : goal.returns-then-is_at-clause-stripes

@@ -14,7 +14,7 @@ invariant_of-self c =
     let new = c.mark_all.new.logs in
     let is : new ≡ map marked_log ls = c.mark_all.ensures ∙ ap (map marked_log) c.deref_mut.ensures.value in
     let long : length new ≡ length ls = ap length is ∙ length-map ls marked_log in
-    subst AreLogs (sym (written_back new ls c.self.inside.logs.len (sym c.deref_mut.ensures.len ∙ ap length c.deref_mut.ensures.value) long ∙ is)) ((mark_all_changes  ls).are c.self.invariant)
+    subst AreLogs (sym (written_back new ls c.self.inside.logs.len (sym c.deref_mut.ensures.len ∙ ap length c.deref_mut.ensures.value) long ∙ is)) ((mark_all_changes ls).are c.self.invariant)
 
 pub returns-clause-logs : goal.returns-clause-logs
 returns-clause-logs c =
@@ -22,7 +22,7 @@ returns-clause-logs c =
     let new = c.mark_all.new.logs in
     let is : new ≡ map marked_log ls = c.mark_all.ensures ∙ ap (map marked_log) c.deref_mut.ensures.value in
     let long : length new ≡ length ls = ap length is ∙ length-map ls marked_log in
-    ap states_of (written_back new ls c.self.inside.logs.len (sym c.deref_mut.ensures.len ∙ ap length c.deref_mut.ensures.value) long ∙ is) ∙ (mark_all_changes  ls).states ∙ ap (λ (s : SeenLogs). changed marked s.logs) c.self.view_is
+    ap states_of (written_back new ls c.self.inside.logs.len (sym c.deref_mut.ensures.len ∙ ap length c.deref_mut.ensures.value) long ∙ is) ∙ (mark_all_changes ls).states ∙ ap (λ (s : SeenLogs). changed marked s.logs) c.self.view_is
 
 pub returns-clause-numbers : goal.returns-clause-numbers
 returns-clause-numbers c =
@@ -30,4 +30,4 @@ returns-clause-numbers c =
     let new = c.mark_all.new.logs in
     let is : new ≡ map marked_log ls = c.mark_all.ensures ∙ ap (map marked_log) c.deref_mut.ensures.value in
     let long : length new ≡ length ls = ap length is ∙ length-map ls marked_log in
-    ap (λ (zs : List Log). keys_of (states_of zs)) (written_back new ls c.self.inside.logs.len (sym c.deref_mut.ensures.len ∙ ap length c.deref_mut.ensures.value) long ∙ is) ∙ (mark_all_changes  ls).numbers ∙ ap (λ (s : SeenLogs). keys_of s.logs) c.self.view_is
+    ap (λ (zs : List Log). keys_of (states_of zs)) (written_back new ls c.self.inside.logs.len (sym c.deref_mut.ensures.len ∙ ap length c.deref_mut.ensures.value) long ∙ is) ∙ (mark_all_changes ls).numbers ∙ ap (λ (s : SeenLogs). keys_of s.logs) c.self.view_is

@@ -1,9 +1,9 @@
-use Rattle.std.proofs.Common.{◌≡◌, ℕ, ◌<◌, ◌≤◌, ◌+◌, ◌∷◌, ◌++◌, [], List, sym, ap, ◌∙◌, subst, arith}
+use Rattle.std.proofs.Common.{◌≡◌, ℕ, ◌<◌, ◌≤◌, ◌+◌, List, sym, ap, ◌∙◌, subst, arith}
 use Rattle.std.specs.List.{AllByRecursion}
 use Rattle.std.specs.Map.{keys_of}
 use Rattle.zb_types.specs.Names.{last_number}
 use Rattle.zb_types.specs.Keyed.{put, changed}
-use Rattle.zb_tables.specs.Tables.{LogState, Tables, risen}
+use Rattle.zb_tables.specs.Tables.{LogState, risen}
 use Rattle.zb_tables.specs.Fold.{attached, ended, new_log, kept_logs}
 use Rattle.zb_manager.specs.Managers.{SeenManager}
 use Rattle.zb_manager.proofs.Numbered.{risen_within, put_last, numbered_more}

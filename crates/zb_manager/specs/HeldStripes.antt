@@ -15,6 +15,7 @@ pub record SeenHeld : Type 0 where
   pub stripes : List HeldUse
   pub room : ℕ
 
+-- for how many more there is room without memory
 abbrev pub room_of : {X Z : Type 0} → Vec X Z → ℕ
 room_of v = vec_capacity v - length v.items
 
@@ -34,5 +35,6 @@ holds_any log stripes = list_any (λ h. h.log.0 == log) stripes
 abbrev pub EndFits : Piece → Type 0
 EndFits p = p.offset + p.len < 2 ^ 32
 
+-- the stripes rise
 abbrev pub IsInOrder : List HeldUse → Type 0
 IsInOrder stripes = IsStrictlySortedBy held_cmp stripes

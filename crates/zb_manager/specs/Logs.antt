@@ -1,10 +1,9 @@
 -- Logs in one piece of memory.
-use Rattle.std.specs.Prelude.{ℕ, ◌+◌, ◌-◌, ◌^◌, false, ◌==◌, if◌then◌else◌, List, map, length, vec_capacity, Option, IfSome, ◌≤◌, ◌<◌, slice_index}
+use Rattle.std.specs.Prelude.{ℕ, ◌+◌, ◌^◌, false, ◌==◌, if◌then◌else◌, List, map, length, Option, IfSome, ◌≤◌, ◌<◌, slice_index}
 use Rattle.std.specs.List.{AllByRecursion}
 use Rattle.std.specs.List.Sorted.{IsStrictlySortedBy}
 use Rattle.std.specs.Map.{keys_of}
 use Rattle.std.specs.Ordering.{nat_cmp}
-use Rattle.std.specs.declared.vec.Vec.{Vec}
 use Rattle.zb_types.specs.declared.ids.Piece.{Piece}
 use Rattle.zb_tables.specs.Tables.{LogState, last_value}
 use Rattle.zb_tables.specs.Fold.{following}
@@ -15,12 +14,11 @@ pub record SeenLogs : Type 0 where
   pub logs : List (ℕ × LogState)
   pub room : ℕ
 
-abbrev pub room_of : {X Z : Type 0} → Vec X Z → ℕ
-room_of v = vec_capacity v - length v.items
-
+-- a log as the tables have it
 abbrev pub state_of : Log → LogState
 state_of log = record { owner = log.owner; live = log.live; batch = log.batch; replies = log.replies; last = log.last; mark = log.mark }
 
+-- the logs as the tables have them
 abbrev pub states_of : List Log → List (ℕ × LogState)
 states_of logs = map (λ log. (log.number, state_of log)) logs
 

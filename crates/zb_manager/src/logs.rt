@@ -118,7 +118,8 @@ pub(crate) struct LogTable {
 }
 
 impl Model for LogTable {
-    ghost use Rattle.zb_manager.specs.Logs.{SeenLogs, AreLogs, room_of, states_of};
+    ghost use Rattle.zb_manager.specs.HeldStripes.{room_of};
+    ghost use Rattle.zb_manager.specs.Logs.{SeenLogs, AreLogs, states_of};
 
     ghost Value = { SeenLogs };
 

@@ -4,7 +4,8 @@ use Rattle.std.specs.List.{AllByRecursion}
 use Rattle.std.specs.Map.{keys_of}
 use Rattle.zb_types.specs.declared.calls.Reply.{Reply}
 use Rattle.zb_manager.specs.declared.log.Log.{Log}
-use Rattle.zb_manager.specs.Logs.{SeenLogs, AreLogs, room_of, states_of}
+use Rattle.zb_manager.specs.HeldStripes.{room_of}
+use Rattle.zb_manager.specs.Logs.{SeenLogs, AreLogs, states_of}
 use Rattle.zb_manager.proofs.LogPlaces.{logs_more, states_more}
 use Rattle.zb_manager.proofs.logs.LogTable.add.Goals as goal
 

@@ -12,3 +12,6 @@ pub mod Once
 pub mod Pointers
 pub mod Retiring
 pub mod Taken
+pub mod Logs
+pub mod Lookups
+pub mod Versions

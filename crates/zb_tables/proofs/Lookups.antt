@@ -1,21 +1,24 @@
 -- Blocks of a lookup that stay current.
 use Rattle.std.proofs.Common.{◌≡◌, ℕ, ◌+◌, ◌<◌, ◌≤◌, Bool, true, false, List, [], ◌∷◌, Option, Some, None, refl, sym, ap, ◌∙◌, subst, inl, inr, arith}
-use Rattle.std.specs.Prelude.{if◌then◌else◌, is_some, IsSomeAnd}
+use Rattle.std.specs.Prelude.{if◌then◌else◌, is_some, IsSomeAnd, IfSome}
 use Rattle.std.proofs.lemmas.Bool.{cases_eq, cases_Bool, cases_order, false≢true}
 use Rattle.std.proofs.lemmas.Option.{none-some, same_Some}
 use Rattle.zb_types.specs.declared.ids.Ptr.{Ptr}
-use Rattle.zb_types.specs.Keyed.{look, put, replaced}
-use Rattle.zb_types.proofs.KeyedLists.{look-put_same, look-put_other, look-replaced_same, look-replaced_other}
+use Rattle.zb_types.specs.declared.tables.HeldUse.{HeldUse}
+use Rattle.zb_types.specs.Keyed.{look, put, replaced, changed}
+use Rattle.zb_types.proofs.KeyedLists.{look-put_same, look-put_other, look-replaced_same, look-replaced_other, over, look-changed}
 use Rattle.zb_delta.specs.declared.delta.Body.{Body}
 use Rattle.zb_delta.specs.declared.delta.Delta.{Delta}
 use Rattle.zb_delta.specs.Spelling.{body_of}
-use Rattle.zb_tables.specs.Tables.{FileState, Contents}
+use Rattle.zb_tables.specs.Tables.{FileState, Contents, IsCommitted, SameIn, head_of}
 use Rattle.zb_tables.specs.Fold.{Files, below, same_ptr, same_place, set_all, with_blocks, is_movable, moved_in, moved, all_moved}
 use Rattle.zb_tables.specs.Looking.{SameBlock}
 use Rattle.zb_tables.specs.Pointing.{IsCopy, AllCopies}
 use Rattle.zb_tables.specs.Leaving.{HasCopies}
 use Rattle.zb_tables.proofs.Below.{look-kept, look-cut}
 use Rattle.zb_tables.proofs.Cleans.{same_ptr_is}
+use Rattle.zb_tables.proofs.Growing.{same_bytes}
+use Rattle.zb_tables.proofs.Heads.{heads_stay}
 
 module _ (contents : Contents) where
   abbrev Same : Option Ptr → Option Ptr → Type 0
@@ -62,7 +65,7 @@ module _ (contents : Contents) where
 
   -- ---- blocks moved to copies
 
-  copies_refl : (file : FileState) → HasCopies contents file file
+  pub copies_refl : (file : FileState) → HasCopies contents file file
   copies_refl file = record { version = refl; length = refl; blocks = λ k. block_same (look k file.blocks) }
 
   copies_then : (a b c : FileState) → HasCopies contents a b → HasCopies contents b c → HasCopies contents a c
@@ -132,3 +135,21 @@ module _ (contents : Contents) where
   clean_left (d ∷ ds) files n old copies at =
       let first = what_is (look n (moved (body_of d) files)) (HasCopies contents old) (one_left n old files d copies.0 at (look (body_of d).fid.0 files) refl) in
       some_then old first.0 (look n (all_moved ds (moved (body_of d) files))) first.2 (clean_left ds (moved (body_of d) files) n first.0 copies.1 first.1)
+
+  pub clean_same : (k : ℕ) (found : List (ℕ × Ptr)) (old new : FileState) → HasCopies contents old new → Same (look k found) (look k old.blocks) → Same (look k found) (look k new.blocks)
+  clean_same k found old new has same = block_then (look k found) (look k old.blocks) (look k new.blocks) same (has.blocks k)
+
+-- a file that isn't there isn't made
+pub clean_none : (ds : List Delta) (files : Files) (n : ℕ) → look n files ≡ None → look n (all_moved ds files) ≡ None
+clean_none ds files n none = no_head (look n (all_moved ds files)) (sym (look-changed head_of n (all_moved ds files)) ∙ ap (look n) (heads_stay ds files) ∙ look-changed head_of n files ∙ ap (over head_of) none) where
+  no_head : (o : Option FileState) → over head_of o ≡ None → o ≡ None
+  no_head None e = refl
+  no_head (Some file) e = absurd (none-some (head_of file) (sym e))
+
+-- ---- contents that grow
+
+pub block_grows : (held : List HeldUse) (one other : Contents) (o q : Option Ptr) → SameIn held one other → IfSome o (IsCommitted held) → IfSome q (IsCommitted held) → SameBlock one o q → SameBlock other o q
+block_grows held one other None None same p r is = tt
+block_grows held one other (Some o) (Some q) same p r is = (sym (same_bytes held one other same o p) ∙ is.0 ∙ same_bytes held one other same q r, is.1)
+block_grows held one other None (Some q) same p r is = absurd is
+block_grows held one other (Some o) None same p r is = absurd is

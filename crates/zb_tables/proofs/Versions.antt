@@ -1,8 +1,8 @@
 -- What the operations of updates leave of a file that is there.
 use Rattle.std.proofs.Common.{◌≡◌, ◌⊎◌, ℕ, ◌+◌, ◌<◌, ◌≤◌, Bool, true, false, eqb, List, [], ◌∷◌, Option, Some, None, refl, sym, ap, ◌∙◌, subst, inl, inr, arith}
-use Rattle.std.specs.Prelude.{◌&&◌, ◌||◌, nat_lt, nat_le, is_some, if◌then◌else◌, Result, Ok, Err, IfOk}
-use Rattle.std.specs.List.{AllByRecursion}
-use Rattle.std.proofs.lemmas.Bool.{cases_eq, cond_both, false≢true, lt-ltb}
+use Rattle.std.specs.Prelude.{◌&&◌, ◌||◌, not, length, nat_lt, nat_le, is_some, IsTrue, IsSomeAnd, if◌then◌else◌, Result, Ok, Err, IfOk}
+use Rattle.std.specs.List.{AllByRecursion, list_all}
+use Rattle.std.proofs.lemmas.Bool.{cases_eq, cond_both, false≢true, lt-ltb, eqb-true, or_parts, and_parts}
 use Rattle.std.proofs.lemmas.Bool.Decides.{nat_tests}
 use Rattle.std.proofs.lemmas.Option.{none-some, same_Some}
 use Rattle.zb_types.specs.declared.ids.Fid.{Fid}
@@ -18,10 +18,14 @@ use Rattle.zb_types.specs.Apply.{max_file}
 use Rattle.zb_types.proofs.KeyedLists.{look-put_other, look-replaced_same, look-replaced_other, look-without_same, look-without_other}
 use Rattle.zb_batch.specs.declared.batch.Op.{Op}
 use Rattle.zb_batch.specs.declared.batch.Op.TheVariants.{Name, Write, Cut, Sync, Clean}
-use Rattle.zb_tables.specs.Tables.{FileState, risen, last_value}
-use Rattle.zb_tables.specs.Fold.{Files, Shelf, Stale, after_write, after_cut, new_file, replied, with_file, named, resized, done_op, done_ops, and_then}
+use Rattle.zb_batch.specs.Batches.{is_alone, is_company}
+use Rattle.zb_delta.specs.declared.delta.Delta.{Delta}
+use Rattle.zb_tables.specs.Tables.{Contents, FileState, risen, last_value}
+use Rattle.zb_tables.specs.Fold.{Files, Shelf, all_moved, Stale, after_write, after_cut, new_file, replied, with_file, named, resized, done_op, done_ops, and_then}
 use Rattle.zb_tables.specs.Taking.{is_worn, wears, on_done, any_wears}
-use Rattle.zb_tables.specs.Leaving.{IsOfUpdate}
+use Rattle.zb_tables.specs.Leaving.{HasCopies, IsOfUpdate}
+use Rattle.zb_tables.specs.Pointing.{AllCopies}
+use Rattle.zb_tables.proofs.Lookups.{clean_left, copies_refl}
 
 -- ---- results
 
@@ -34,44 +38,61 @@ then_ok (Err stale) P Q f all = tt
 
 -- ---- a change of one file
 
--- names stay, and the files are the same or have the changed file
-abbrev pub Leaves : Shelf → Fid → ℕ → (FileState → FileState) → Option FileState → Shelf → Type 0
-Leaves s fid end new o after =
-    (after.names ≡ s.names) × ((after.files ≡ s.files) ⊎ ((file : FileState) × (o ≡ Some file) × (after.files ≡ replaced fid.0 (new file) s.files) × (nat_lt max_file end ≡ false)))
+-- names stay; the change was made at the file's version; and the files are the same, for a cause, or have the changed file
+abbrev pub Leaves : Shelf → Fid → ℕ → ℕ → (FileState → FileState) → Option FileState → Shelf → Type 0
+Leaves s fid version end new o after =
+    (after.names ≡ s.names) × ((file : FileState) → o ≡ Some file → version ≡ file.version)
+    × (((after.files ≡ s.files) × ((o ≡ None) ⊎ (nat_lt max_file end ≡ true)))
+    ⊎ ((file : FileState) × (o ≡ Some file) × (after.files ≡ replaced fid.0 (new file) s.files) × (nat_lt max_file end ≡ false)))
 
-pub resized_leaves : (s : Shelf) (fid : Fid) (version end : ℕ) (new : FileState → FileState) (o : Option FileState) → IfOk (resized s fid version end new o) (Leaves s fid end new o)
-resized_leaves s fid version end new None = (refl, inl refl)
+pub resized_leaves : (s : Shelf) (fid : Fid) (version end : ℕ) (new : FileState → FileState) (o : Option FileState) → IfOk (resized s fid version end new o) (Leaves s fid version end new o)
+resized_leaves s fid version end new None = (refl, λ file e. absurd (none-some file e), inl (refl, inl refl))
 resized_leaves s fid version end new (Some file) =
     cond_both (eqb version file.version) (if nat_lt max_file end then Ok (replied s (Refused TooBig)) else Ok (with_file s fid (new file))) (Err (record { fid = fid; seen = version; now = file.version }))
-    (λ r. IfOk r (Leaves s fid end new (Some file)))
-    (λ t. cond_both (nat_lt max_file end) (Ok (replied s (Refused TooBig))) (Ok (with_file s fid (new file))) (λ r. IfOk r (Leaves s fid end new (Some file)))
-    (λ big. (refl, inl refl))
-    (λ fits. (refl, inr (file, refl, refl, fits))))
+    (λ r. IfOk r (Leaves s fid version end new (Some file)))
+    (λ t.
+    let at : (f : FileState) → Some file ≡ Some f → version ≡ f.version = λ f e. eqb-true version file.version t ∙ ap (λ (g : FileState). g.version) (same_Some file f e) in
+    cond_both (nat_lt max_file end) (Ok (replied s (Refused TooBig))) (Ok (with_file s fid (new file))) (λ r. IfOk r (Leaves s fid version end new (Some file)))
+    (λ big. (refl, at, inl (refl, inr big)))
+    (λ fits. (refl, at, inr (file, refl, refl, fits))))
     (λ stale. tt)
 
 found_after : (files : Files) (fid : ℕ) (file new : FileState) → look fid files ≡ Some file → look fid (replaced fid new files) ≡ Some new
 found_after files fid file new at = look-replaced_same fid new files (ap is_some at)
 
--- the file itself is as it was or is the changed one
-pub resized_itself : (s after : Shelf) (fid : Fid) (version end : ℕ) (new : FileState → FileState) (old is : FileState) → resized s fid version end new (look fid.0 s.files) ≡ Ok after
-    → look fid.0 s.files ≡ Some old → look fid.0 after.files ≡ Some is → (is ≡ old) ⊎ (is ≡ new old)
-resized_itself s after fid version end new old is e at now =
-    elim (if_ok _ after (Leaves s fid end new (look fid.0 s.files)) (resized_leaves s fid version end new (look fid.0 s.files)) e).1 as (λ _. (is ≡ old) ⊎ (is ≡ new old)) [
-      | inl stays ↦ inl (same_Some is old (sym now ∙ ap (look fid.0) stays ∙ at))
-      | inr change ↦
-          let file : FileState = change.0 in
-          let was : file ≡ old = same_Some file old (sym change.1 ∙ at) in
-          inr (same_Some is (new old) (sym now ∙ ap (look fid.0) change.2 ∙ found_after s.files fid.0 file (new file) change.1 ∙ ap (λ (f : FileState). Some (new f)) was))
-    ]
+module _ (s after : Shelf) (fid : Fid) (version end : ℕ) (new : FileState → FileState) (done : resized s fid version end new (look fid.0 s.files) ≡ Ok after) where
+  left : Leaves s fid version end new (look fid.0 s.files) after
+  left = if_ok (resized s fid version end new (look fid.0 s.files)) after (Leaves s fid version end new (look fid.0 s.files)) (resized_leaves s fid version end new (look fid.0 s.files)) done
 
--- other files are as they were
-pub resized_beside : (s after : Shelf) (fid : Fid) (version end : ℕ) (new : FileState → FileState) (n : ℕ) → resized s fid version end new (look fid.0 s.files) ≡ Ok after
-    → (fid.0 ≡ n → ⊥) → look n after.files ≡ look n s.files
-resized_beside s after fid version end new n e other =
-    elim (if_ok _ after (Leaves s fid end new (look fid.0 s.files)) (resized_leaves s fid version end new (look fid.0 s.files)) e).1 as (λ _. look n after.files ≡ look n s.files) [
-      | inl stays ↦ ap (look n) stays
-      | inr change ↦ ap (look n) change.2 ∙ look-replaced_other n fid.0 (new change.0) s.files other
-    ]
+  -- a file that is there and isn't made too long is changed, at its version
+  pub resized_itself : (old : FileState) → look fid.0 s.files ≡ Some old → end ≤ max_file → (version ≡ old.version) × (look fid.0 after.files ≡ Some (new old))
+  resized_itself old at short = (left.1 old at, itself left.2) where
+    itself : ((after.files ≡ s.files) × ((look fid.0 s.files ≡ None) ⊎ (nat_lt max_file end ≡ true)))
+        ⊎ ((file : FileState) × (look fid.0 s.files ≡ Some file) × (after.files ≡ replaced fid.0 (new file) s.files) × (nat_lt max_file end ≡ false))
+        → look fid.0 after.files ≡ Some (new old)
+    itself (inl (stays, inl none)) = absurd (none-some old (sym none ∙ at))
+    itself (inl (stays, inr big)) = absurd (grind (arith, nat_tests))
+    itself (inr change) =
+        ap (look fid.0) change.2 ∙ found_after s.files fid.0 change.0 (new change.0) change.1
+        ∙ ap (λ (f : FileState). Some (new f)) (same_Some change.0 old (sym change.1 ∙ at))
+
+  -- else the files are as they were
+  pub resized_refused : (look fid.0 s.files ≡ None) ⊎ (max_file < end) → after.files ≡ s.files
+  resized_refused why = refused why left.2 where
+    refused : (look fid.0 s.files ≡ None) ⊎ (max_file < end)
+        → ((after.files ≡ s.files) × ((look fid.0 s.files ≡ None) ⊎ (nat_lt max_file end ≡ true)))
+        ⊎ ((file : FileState) × (look fid.0 s.files ≡ Some file) × (after.files ≡ replaced fid.0 (new file) s.files) × (nat_lt max_file end ≡ false))
+        → after.files ≡ s.files
+    refused cause (inl stays) = stays.0
+    refused (inl none) (inr change) = absurd (none-some change.0 (sym none ∙ change.1))
+    refused (inr big) (inr change) = absurd (false≢true (sym change.3 ∙ lt-ltb max_file end big))
+
+  -- other files are as they were
+  pub resized_beside : (n : ℕ) → (fid.0 ≡ n → ⊥) → look n after.files ≡ look n s.files
+  resized_beside n other = elim left.2 as (λ _. look n after.files ≡ look n s.files) [
+    | inl stays ↦ ap (look n) stays.0
+    | inr change ↦ ap (look n) change.2 ∙ look-replaced_other n fid.0 (new change.0) s.files other
+  ]
 
 -- ---- versions
 
@@ -83,10 +104,6 @@ below_last v last end most worn big le = elim (cases_eq v last) as (λ _. v < la
 
 risen_next : (v : ℕ) → v < last_value → risen v ≡ v + 1
 risen_next v lt = ap (λ (b : Bool). if b then v + 1 else v) (lt-ltb v last_value lt)
-
-either_false : (x y : Bool) → (x || y) ≡ false → (x ≡ false) × (y ≡ false)
-either_false true y e = absurd (false≢true (sym e))
-either_false false y e = (refl, e)
 
 -- ---- what an operation leaves under a number
 
@@ -121,12 +138,12 @@ module _ (n : ℕ) where
   abbrev pub After : Shelf → Shelf → Type 0
   After s after = Turn (look n s.files) (look n after.files) × (n < after.names.next)
 
-  left_turn : (s after : Shelf) (fid : Fid) (end : ℕ) (new : FileState → FileState) → ((file : FileState) → (new file).version ≡ risen file.version)
-      → n < s.names.next → HasVersion (look n s.files) → is_worn end (look fid.0 s.files) ≡ false → Leaves s fid end new (look fid.0 s.files) after → After s after
-  left_turn s after fid end new rises lt most worn left = (turn, subst (λ (names : Names). n < names.next) (sym left.0) lt) where
+  left_turn : (s after : Shelf) (fid : Fid) (version end : ℕ) (new : FileState → FileState) → ((file : FileState) → (new file).version ≡ risen file.version)
+      → n < s.names.next → HasVersion (look n s.files) → is_worn end (look fid.0 s.files) ≡ false → Leaves s fid version end new (look fid.0 s.files) after → After s after
+  left_turn s after fid version end new rises lt most worn is = (turn, subst (λ (names : Names). n < names.next) (sym is.0) lt) where
     turn : Turn (look n s.files) (look n after.files)
-    turn = elim left.1 as (λ _. Turn (look n s.files) (look n after.files)) [
-      | inl stays ↦ inl (ap (look n) stays)
+    turn = elim is.2 as (λ _. Turn (look n s.files) (look n after.files)) [
+      | inl stays ↦ inl (ap (look n) stays.0)
       | inr change ↦ elim (cases_eq fid.0 n) as (λ _. Turn (look n s.files) (look n after.files)) [
         | inr other ↦ inl (ap (look n) change.2 ∙ look-replaced_other n fid.0 (new change.0) s.files other)
         | inl here ↦
@@ -148,8 +165,8 @@ module _ (n : ℕ) where
   sized_turn : (s : Shelf) (fid : Fid) (version end : ℕ) (new : FileState → FileState) → ((file : FileState) → (new file).version ≡ risen file.version)
       → n < s.names.next → HasVersion (look n s.files) → is_worn end (look fid.0 s.files) ≡ false → IfOk (resized s fid version end new (look fid.0 s.files)) (After s)
   sized_turn s fid version end new rises lt most worn =
-      then_ok (resized s fid version end new (look fid.0 s.files)) (Leaves s fid end new (look fid.0 s.files)) (After s)
-      (λ after left. left_turn s after fid end new rises lt most worn left) (resized_leaves s fid version end new (look fid.0 s.files))
+      then_ok (resized s fid version end new (look fid.0 s.files)) (Leaves s fid version end new (look fid.0 s.files)) (After s)
+      (λ after is. left_turn s after fid version end new rises lt most worn is) (resized_leaves s fid version end new (look fid.0 s.files))
 
   dropped_turn : (o : Option Entry) (files : Files) → Turn (look n files) (look n (files_after new_file (dropped o) files))
   dropped_turn None files = inl refl
@@ -226,7 +243,7 @@ module _ (n : ℕ) where
   pub ops_through : (b : ℕ) (ops : List Op) (s : Shelf) → AllByRecursion IsOfUpdate ops → any_wears b ops s ≡ false → n < s.names.next → HasVersion (look n s.files) → IfOk (done_ops b ops s) (Through s)
   ops_through b [] s are worn lt most = inl refl
   ops_through b (o ∷ os) s are worn lt most =
-      let apart = either_false (wears s o) (on_done (any_wears b os) (done_op b s o)) worn in
+      let apart = or_parts (wears s o) (on_done (any_wears b os) (done_op b s o)) worn in
       through s (done_op b s o) (done_ops b os) (op_turn b s o are.0 apart.0 lt most) most
       (λ t e below_next has. ops_through b os t are.1 (sym (ap (on_done (any_wears b os)) e) ∙ apart.1) below_next has)
 
@@ -271,4 +288,53 @@ module _ (n : ℕ) where
   ops_same b s after ops old new are worn e lt most was now version = elim (ops_leave b s after ops old new are worn e lt most was now) as (λ _. new ≡ old) [
     | inl is ↦ is
     | inr later ↦ absurd (omega (arith, later, version))
+  ]
+
+  -- what is gone stays gone
+  later_gone : (before after : Option FileState) → before ≡ None → Later before after → after ≡ None
+  later_gone before after none (inl stays) = stays ∙ none
+  later_gone before after none (inr (inl gone)) = gone
+  later_gone before after none (inr (inr later)) = absurd (none-some later.old (sym none ∙ later.was))
+
+  pub ops_gone : (b : ℕ) (s after : Shelf) (ops : List Op) → AllByRecursion IsOfUpdate ops → any_wears b ops s ≡ false → done_ops b ops s ≡ Ok after → n < s.names.next
+      → look n s.files ≡ None → look n after.files ≡ None
+  ops_gone b s after ops are worn e lt none =
+      later_gone (look n s.files) (look n after.files) none (if_ok (done_ops b ops s) after (Through s) (ops_through b ops s are worn lt (λ file at. absurd (none-some file (sym none ∙ at)))) e)
+
+-- ---- a batch, of the cleaner or of updates
+
+of_update : (o : Op) → is_alone o ≡ false → IsOfUpdate o
+of_update (Name call what) alone = tt
+of_update (Write call fid version offset len deltas) alone = tt
+of_update (Cut call fid version size deltas) alone = tt
+of_update (Sync call) alone = tt
+of_update (Clean deltas) alone = absurd (false≢true (sym alone))
+
+none_alone : (ops : List Op) → IsTrue (list_all (λ o. not (is_alone o)) ops) → AllByRecursion IsOfUpdate ops
+none_alone [] all = tt
+none_alone (o ∷ os) all =
+    let both = and_parts (not (is_alone o)) (list_all (λ p. not (is_alone p)) os) all in
+    (of_update o (grind (arith, both.0)), none_alone os both.1)
+
+pub one_kind : (ops : List Op) → IsTrue (is_company ops) → ((deltas : List Delta) × (ops ≡ Clean deltas ∷ [])) ⊎ AllByRecursion IsOfUpdate ops
+one_kind [] company = inr tt
+one_kind (Name call what ∷ []) company = inr (tt, tt)
+one_kind (Write call fid version offset len deltas ∷ []) company = inr (tt, tt)
+one_kind (Cut call fid version size deltas ∷ []) company = inr (tt, tt)
+one_kind (Sync call ∷ []) company = inr (tt, tt)
+one_kind (Clean deltas ∷ []) company = inl (deltas, refl)
+one_kind (o ∷ (p ∷ os)) company = inr (none_alone (o ∷ (p ∷ os)) (and_parts (nat_le (length (o ∷ (p ∷ os))) 8) (list_all (λ q. not (is_alone q)) (o ∷ (p ∷ os))) company).1)
+
+module _ (contents : Contents) (b : ℕ) (s after : Shelf) (ops : List Op) (n : ℕ) (old new : FileState) (was : look n s.files ≡ Some old) (now : look n after.files ≡ Some new) where
+  clean_keeps : (deltas : List Delta) → ops ≡ Clean deltas ∷ [] → AllCopies contents deltas → done_ops b ops s ≡ Ok after → HasCopies contents old new
+  clean_keeps deltas are copies e =
+      let alone : done_ops b (Clean deltas ∷ []) s ≡ Ok after = ap (λ (os : List Op). done_ops b os s) (sym are) ∙ e in
+      let files : all_moved deltas s.files ≡ after.files = if_ok (done_ops b (Clean deltas ∷ []) s) after (λ t. all_moved deltas s.files ≡ t.files) refl alone in
+      subst (λ (o : Option FileState). IsSomeAnd o (HasCopies contents old)) (ap (look n) files ∙ now) (clean_left contents deltas s.files n old copies was)
+
+  pub commit_keeps : IsTrue (is_company ops) → ((deltas : List Delta) → ops ≡ Clean deltas ∷ [] → AllCopies contents deltas) → any_wears b ops s ≡ false → done_ops b ops s ≡ Ok after
+      → n < s.names.next → old.version ≤ last_value → new.version ≡ old.version → HasCopies contents old new
+  commit_keeps company copies worn e lt most version = elim (one_kind ops company) as (λ _. HasCopies contents old new) [
+    | inl clean ↦ clean_keeps clean.0 clean.1 (copies clean.0 clean.1) e
+    | inr are ↦ subst (HasCopies contents old) (sym (ops_same n b s after ops old new are worn e lt most was now version)) (copies_refl contents old)
   ]

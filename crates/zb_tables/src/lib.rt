@@ -16,6 +16,6 @@ pub use log_laws::{
     retire_leaves_logs,
 };
 pub use lookup_laws::{
-    changes_leave_files, clean_leaves_blocks, committed_pointers_stay, lookups_go_on,
-    updates_leave_files,
+    batch_leaves_blocks, clean_leaves_blocks, committed_pointers_stay, cut_leaves_files,
+    lookups_go_on, updates_leave_files, write_leaves_files,
 };

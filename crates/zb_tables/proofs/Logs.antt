@@ -1,5 +1,5 @@
 -- What entries leave of the logs.
-use Rattle.std.proofs.Common.{◌≡◌, ◌⊎◌, ℕ, zero, suc, ◌<◌, ◌≤◌, ◌+◌, ◌-◌, max, Bool, true, false, eqb, List, [], ◌∷◌, length, Option, Some, None, refl, sym, ap, ◌∙◌, subst, inl, inr, arith}
+use Rattle.std.proofs.Common.{◌≡◌, ◌⊎◌, ℕ, zero, suc, ◌≤◌, Bool, true, false, eqb, List, [], ◌∷◌, length, Option, Some, None, refl, sym, ap, ◌∙◌, inl, inr, arith}
 use Rattle.std.specs.Prelude.{◌==◌, ◌||◌, if◌then◌else◌, filter, is_some, IsSome}
 use Rattle.std.specs.List.{AllByRecursion, list_any, slice_get}
 use Rattle.std.proofs.lemmas.Bool.{cases_Bool, cases_eq, cond_both, eqb-true, false≢true}
@@ -11,10 +11,10 @@ use Rattle.zb_types.specs.declared.calls.Reply.{Reply}
 use Rattle.zb_types.specs.declared.nodes.State.{State}
 use Rattle.zb_types.specs.declared.nodes.State.TheVariants.{Whole, Out, Mending}
 use Rattle.zb_types.specs.declared.tables.HeldUse.{HeldUse}
-use Rattle.zb_types.specs.Keyed.{look, put, replaced, changed}
-use Rattle.zb_types.proofs.KeyedLists.{KeysAbove, IsRising, IsRising-changed, look-below, look-put_same, look-put_other, look-replaced_same, look-replaced_other, over, look-changed}
-use Rattle.zb_tables.specs.Tables.{LogState, Tables}
-use Rattle.zb_tables.specs.Fold.{kept_logs, ended, following, marked, all_marked, last_of, new_log, with_batch}
+use Rattle.zb_types.specs.Keyed.{look, changed}
+use Rattle.zb_types.proofs.KeyedLists.{KeysAbove, IsRising, IsRising-changed, look-below, look-replaced_same, look-replaced_other, over, look-changed}
+use Rattle.zb_tables.specs.Tables.{LogState}
+use Rattle.zb_tables.specs.Fold.{kept_logs, ended, following, marked, all_marked, last_of, with_batch}
 
 abbrev Logs : Type 0
 Logs = List (ℕ × LogState)
@@ -156,25 +156,30 @@ pub last_former : (pieces : List Piece) (n stripe : ℕ) → last_of (Some strip
 last_former [] n stripe e = let s = same_Some stripe n e in omega (arith, s)
 last_former (p ∷ ps) n stripe e = let rest = last_former ps n _ e in omega (arith, rest)
 
+-- the first piece's stripe is at most the last one
+first_piece : (p : Piece) (ps : List Piece) (n : ℕ) (last : Option ℕ) → last_of last (p ∷ ps) ≡ Some n → p.stripe ≤ n
+first_piece p ps n None e = let rest = last_former ps n _ e in omega (arith, rest)
+first_piece p ps n (Some stripe) e = let rest = last_former ps n _ e in omega (arith, rest)
+
 pub last_pieces : (pieces : List Piece) (n : ℕ) (last : Option ℕ) → last_of last pieces ≡ Some n → AllByRecursion (λ p. p.stripe ≤ n) pieces
 last_pieces [] n last e = tt
-last_pieces (p ∷ ps) n last e = (let rest = last_former ps n _ e in omega (arith, rest), last_pieces ps n _ e)
+last_pieces (p ∷ ps) n last e = (first_piece p ps n last e, last_pieces ps n _ e)
 
 behind : (p : Piece) (ps : List Piece) (n : ℕ) → HasStripe ps n → HasStripe (p ∷ ps) n
 behind p ps n has = (suc has.0, has.1, has.2, has.3)
 
-from_first : (last : Option ℕ) (p : Piece) (ps : List Piece) (n : ℕ) → max p.stripe (following last - 1) ≡ n → (last ≡ Some n) ⊎ HasStripe (p ∷ ps) n
-from_first None p ps n e = inr (zero, p, refl, omega (arith, e))
+from_first : (last : Option ℕ) (p : Piece) (ps : List Piece) (n : ℕ) → last_of last (p ∷ []) ≡ Some n → (last ≡ Some n) ⊎ HasStripe (p ∷ ps) n
+from_first None p ps n e = inr (zero, p, refl, let top = same_Some _ n e in omega (arith, top))
 from_first (Some stripe) p ps n e = elim (cases_eq stripe n) as (λ _. (Some stripe ≡ Some n) ⊎ HasStripe (p ∷ ps) n) [
   | inl same ↦ inl (ap Some same)
-  | inr other ↦ inr (zero, p, refl, omega (arith, e, other))
+  | inr other ↦ inr (zero, p, refl, let top = same_Some _ n e in omega (arith, top, other))
 ]
 
 pub last_one : (pieces : List Piece) (n : ℕ) (last : Option ℕ) → last_of last pieces ≡ Some n → (last ≡ Some n) ⊎ HasStripe pieces n
 last_one [] n last e = inl e
 last_one (p ∷ ps) n last e = elim (last_one ps n _ e) as (λ _. (last ≡ Some n) ⊎ HasStripe (p ∷ ps) n) [
   | inr has ↦ inr (behind p ps n has)
-  | inl top ↦ from_first last p ps n (same_Some _ n top)
+  | inl top ↦ from_first last p ps n top
 ]
 
 pub last_is : (last : Option ℕ) (pieces : List Piece) → (IsSome last) ⊎ (1 ≤ length pieces) → IsSome (last_of last pieces)

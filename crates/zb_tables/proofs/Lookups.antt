@@ -1,17 +1,16 @@
 -- Blocks of a lookup that stay current.
-use Rattle.std.proofs.Common.{◌≡◌, ℕ, ◌+◌, ◌<◌, ◌≤◌, Bool, true, false, List, [], ◌∷◌, Option, Some, None, refl, sym, ap, ◌∙◌, subst, inl, inr, arith}
+use Rattle.std.proofs.Common.{◌≡◌, ℕ, Bool, true, List, [], ◌∷◌, Option, Some, None, refl, sym, ap, ◌∙◌, subst, inl, inr, arith}
 use Rattle.std.specs.Prelude.{if◌then◌else◌, is_some, IsSomeAnd, IfSome}
 use Rattle.std.proofs.lemmas.Bool.{cases_eq, cases_Bool, cases_order, false≢true}
 use Rattle.std.proofs.lemmas.Option.{none-some, same_Some}
 use Rattle.zb_types.specs.declared.ids.Ptr.{Ptr}
 use Rattle.zb_types.specs.declared.tables.HeldUse.{HeldUse}
-use Rattle.zb_types.specs.Keyed.{look, put, replaced, changed}
+use Rattle.zb_types.specs.Keyed.{look, put, replaced}
 use Rattle.zb_types.proofs.KeyedLists.{look-put_same, look-put_other, look-replaced_same, look-replaced_other, over, look-changed}
-use Rattle.zb_delta.specs.declared.delta.Body.{Body}
 use Rattle.zb_delta.specs.declared.delta.Delta.{Delta}
 use Rattle.zb_delta.specs.Spelling.{body_of}
 use Rattle.zb_tables.specs.Tables.{FileState, Contents, IsCommitted, SameIn, head_of}
-use Rattle.zb_tables.specs.Fold.{Files, below, same_ptr, same_place, set_all, with_blocks, is_movable, moved_in, moved, all_moved}
+use Rattle.zb_tables.specs.Fold.{Files, below, same_place, set_all, with_blocks, is_movable, moved_in, moved, all_moved}
 use Rattle.zb_tables.specs.Looking.{SameBlock}
 use Rattle.zb_tables.specs.Pointing.{IsCopy, AllCopies}
 use Rattle.zb_tables.specs.Leaving.{HasCopies}

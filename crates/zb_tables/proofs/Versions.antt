@@ -1,6 +1,6 @@
 -- What the operations of updates leave of a file that is there.
 use Rattle.std.proofs.Common.{◌≡◌, ◌⊎◌, ℕ, ◌+◌, ◌<◌, ◌≤◌, Bool, true, false, eqb, List, [], ◌∷◌, Option, Some, None, refl, sym, ap, ◌∙◌, subst, inl, inr, arith}
-use Rattle.std.specs.Prelude.{◌&&◌, ◌||◌, not, length, nat_lt, nat_le, is_some, IsTrue, IsSomeAnd, if◌then◌else◌, Result, Ok, Err, IfOk}
+use Rattle.std.specs.Prelude.{◌&&◌, not, length, nat_lt, nat_le, is_some, IsTrue, IsSomeAnd, if◌then◌else◌, Result, Ok, Err, IfOk}
 use Rattle.std.specs.List.{AllByRecursion, list_all}
 use Rattle.std.proofs.lemmas.Bool.{cases_eq, cond_both, false≢true, lt-ltb, eqb-true, or_parts, and_parts}
 use Rattle.std.proofs.lemmas.Bool.Decides.{nat_tests}
@@ -8,11 +8,11 @@ use Rattle.std.proofs.lemmas.Option.{none-some, same_Some}
 use Rattle.zb_types.specs.declared.ids.Fid.{Fid}
 use Rattle.zb_types.specs.declared.calls.Call.{Call}
 use Rattle.zb_types.specs.declared.calls.Call.TheVariants.{Create, Mkdir, Remove, Rename, Write as WriteCall, Truncate, Sync as SyncCall, Read, List as ListOf, Stat, Find}
-use Rattle.zb_types.specs.declared.calls.Reply.TheVariants.{Done, Refused}
+use Rattle.zb_types.specs.declared.calls.Reply.TheVariants.{Refused}
 use Rattle.zb_types.specs.declared.calls.Refusal.{Refusal}
-use Rattle.zb_types.specs.declared.calls.Refusal.TheVariants.{Gone, TooBig}
-use Rattle.zb_types.specs.Keyed.{look, put, replaced, without}
-use Rattle.zb_types.specs.Names.{Entry, directory, numbered, Names, Change, same, makes, drops, dropped, find, name_refusal, name_effect, name_change}
+use Rattle.zb_types.specs.declared.calls.Refusal.TheVariants.{TooBig}
+use Rattle.zb_types.specs.Keyed.{look, replaced, without}
+use Rattle.zb_types.specs.Names.{Entry, directory, numbered, Names, dropped, find, name_refusal}
 use Rattle.zb_types.specs.Tree.{files_after}
 use Rattle.zb_types.specs.Apply.{max_file}
 use Rattle.zb_types.proofs.KeyedLists.{look-put_other, look-replaced_same, look-replaced_other, look-without_same, look-without_other}

@@ -1,4 +1,4 @@
-use Rattle.zb_tables.proofs.Logs.{last_some, last_former, last_pieces, last_one, last_is}
+use Rattle.zb_tables.proofs.Logs.{last_former, last_pieces, last_one, last_is}
 use Rattle.zb_tables.proofs.log_laws.last_stripe_is_greatest.Goals as goal
 
 pub returns-clause-pieces : goal.returns-clause-pieces

@@ -1,6 +1,6 @@
 -- The tables before the first entry are those of a checkpoint.
-use Rattle.std.proofs.Common.{[], None, Some, refl, sym, arith}
-use Rattle.std.specs.List.Sorted.{IsStrictlySortedBy, IsPermutation}
+use Rattle.std.proofs.Common.{[], arith}
+use Rattle.std.specs.List.Sorted.{IsStrictlySortedBy}
 use Rattle.std.proofs.lemmas.Option.{none-some}
 use Rattle.std.proofs.lemmas.List.Sorted.{IsPermutation-refl}
 use Rattle.zb_tables.specs.Tables.{first_tables}

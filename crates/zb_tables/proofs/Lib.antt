@@ -13,3 +13,6 @@ pub mod Pointers
 pub mod Retiring
 pub mod Taken
 pub mod First
+pub mod Logs
+pub mod Lookups
+pub mod Versions

@@ -47,8 +47,16 @@ impl BlockCache {
         self.held.get(ptr)
     }
 
+    /// The bytes under a pointer, which isn't used by that. None exactly where the cache has none.
+    pub fn peek(&self, ptr: &Ptr) -> Option<&ByteList>
+        ensures { option_copied result ≡ bytes_under ptr.now self.now.entries }
+    {
+        self.held.peek(ptr)
+    }
+
     /// Puts these bytes under a pointer, which is then the last used. Where it is a new one in a full cache, the block
     /// that was used the longest time ago goes. Takes no memory where the pointer has bytes already.
+    /// After want of memory the cache is as before, and the bytes are gone.
     pub fn put(&mut self, ptr: Ptr, bytes: ByteList) -> Mem<()>
         ensures ok { OnOk result (self.new.entries ≡ after_put self.old.room ptr bytes self.old.entries) }
         ensures err { OnErr result (self.new.entries ≡ self.old.entries) }

@@ -13,3 +13,4 @@ pub mod LogPlaces
 pub mod Mapping
 pub mod Changes
 pub mod Preparing
+pub mod Folding

@@ -1,6 +1,6 @@
 -- What a commit that is prepared, or refused, rests on.
 use Rattle.std.proofs.Common.{◌≡◌, ℕ, ◌-◌, ◌*◌, ◌^◌, ◌<◌, ◌≤◌, List, [], ◌∷◌, Option, Some, None, ap, subst, arith}
-use Rattle.std.specs.Prelude.{◌==◌, nat_lt, Err}
+use Rattle.std.specs.Prelude.{◌==◌, nat_lt, Result, Err}
 use Rattle.std.specs.List.{AllByRecursion}
 use Rattle.std.proofs.lemmas.Bool.{cond_both}
 use Rattle.std.proofs.lemmas.Nat.{mul-le}
@@ -58,3 +58,14 @@ regen_answers A t log pieces generation rest fault e = answer fault (subst IsReg
   answer (Worn field) is same = absurd is
   answer NoMemory is same = tt
   answer Stopped is same = absurd is
+
+-- want of memory isn't
+pub regen_members : (A : Type 0) (t : Tables) (log : LogId) (pieces : List Piece) (generation : ℕ) (fault : CommitFault)
+    → regen_of t log pieces generation ≡ Some fault → ◌≡◌ {A = Result A CommitFault} (Err fault) (Err NoMemory) → regen_of t log pieces generation ≡ None
+regen_members A t log pieces generation fault e err = by_fault fault (subst IsRegen e (is_regen t log pieces generation)) err where
+  by_fault : (f : CommitFault) → IsRegen (Some f) → ◌≡◌ {A = Result A CommitFault} (Err f) (Err NoMemory) → regen_of t log pieces generation ≡ None
+  by_fault (Regen seen now) is same = absurd cc
+  by_fault (Stale fid seen now) is same = absurd is
+  by_fault (Worn field) is same = absurd is
+  by_fault NoMemory is same = absurd is
+  by_fault Stopped is same = absurd is

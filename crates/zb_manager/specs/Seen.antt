@@ -59,3 +59,7 @@ pub record IsPrepared (b : ℕ) (t : Tables) (batch : Batch) (pieces : List Piec
 abbrev pub last_in : Option LogState → Option (ℕ × List Reply)
 last_in None = None
 last_in (Some l) = Some (l.batch, l.replies)
+
+-- with another holder, or none
+abbrev pub held_by : Option ℕ → SeenManager → SeenManager
+held_by holder s = record s { holder = holder }

@@ -5,6 +5,7 @@
 mod cleaning;
 mod drafts;
 mod held;
+mod laws;
 mod log;
 mod logs;
 mod manager;
@@ -14,6 +15,7 @@ mod reserving;
 mod work;
 mod working;
 
+pub use laws::a_prepared_batch_is_folded;
 pub use log::ReplyList;
 pub use manager::{Blocked, Manager};
 pub use prepared::Prepared;

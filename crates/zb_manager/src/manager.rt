@@ -1,16 +1,17 @@
-ghost use Rattle.std.specs.Prelude.{◌≡◌, ◌≢◌, ◌≤◌, ◌<◌, ◌^◌, [], IfOk, IfErr, OnOk, OnErr, option_map, Some, None};
+ghost use Rattle.std.specs.Prelude.{◌≡◌, ◌≢◌, ◌≤◌, ◌<◌, ◌^◌, [], IfOk, IfErr, IsErrOf, OnOk, OnErr, option_map, Some, None};
 ghost use Rattle.zb_types.specs.Names.{last_number};
+ghost use Rattle.zb_types.specs.declared.tables.CommitFault.TheVariants.{NoMemory as OutOfMemory};
 ghost use Rattle.zb_types.specs.Keyed.{look};
 ghost use Rattle.zb_tables.specs.Tables.{first_tables, risen as next_value};
 ghost use Rattle.zb_tables.specs.Fold.{after_retire, attached, shelf_of, with_members};
 ghost use Rattle.zb_tables.specs.Taking.{IsAnswer, MayCommit, below_mark as first_below, commit_refusal, regen_of, stripe_room};
-ghost use Rattle.zb_tables.specs.Finding.{found, live, status};
+ghost use Rattle.zb_tables.specs.Finding.{found, live, status, use_of};
 ghost use Rattle.std.specs.List.{AllByRecursion};
 ghost use Rattle.zb_manager.specs.Drafts.{IsFileOp};
 ghost use Rattle.zb_manager.specs.Works.{MayWork, RoomForWork};
 ghost use Rattle.zb_manager.specs.Plans.{IsMovePlan, IsWork, Plans, worn_field};
 ghost use Rattle.zb_manager.specs.Managers.{IsFreeFor, SameBesides, SameTables, sizes_of};
-ghost use Rattle.zb_manager.specs.Seen.{IsPrepared, IsReady, last_in, pointers_of, prepared_tables, with_work};
+ghost use Rattle.zb_manager.specs.Seen.{IsPrepared, IsReady, held_by, last_in, pointers_of, prepared_tables, with_work};
 
 use crate::cleaning::plan_moves;
 use crate::drafts::{StaleOp, plan_files};
@@ -192,8 +193,11 @@ impl Manager {
     /// Looks at what a batch comes to, and makes room for it. The tables stay as they are. Its batch has to be one that can
     /// be spelled, with the number after the log's last, and its pointers and pieces have to lie within stripes.
     ///
-    /// Answers `Regen` where the generation isn't that of the members, or where a stripe is below the log's mark; then
-    /// `Stale` for the first operation whose file has another version; then `Worn` where a number stands at its last value.
+    /// Answers `Regen` where the generation isn't that of the members, with both, or where a piece's stripe is below the
+    /// log's mark, with both; then `Stale` for the first operation whose file has another version; then `Worn` where a number
+    /// stands at its last value: 2 of the journal's entries, 3 of batches, 4 of a version. `NoMemory` may come in the place of
+    /// any but `Regen`; the tables are as before then, and room that was made may stay. What was prepared may be applied
+    /// while nothing but `hold`, `release` and calls that only look come between.
     pub fn prepare(
         &mut self,
         alloc: Global,
@@ -203,6 +207,7 @@ impl Manager {
     ) -> Result<Prepared, CommitFault>
         requires { MayCommit self.old.sizes self.old.tables batch.now pieces.now }
         ensures refused { IsAnswer (commit_refusal self.old.sizes.block self.old.tables batch.now pieces.now generation) result }
+        ensures members { IsErrOf result OutOfMemory → regen_of self.old.tables batch.now.log pieces.now generation ≡ None }
         ensures prepared { IfOk result (IsPrepared self.old.sizes.block self.old.tables batch.now pieces.now) }
         ensures ready { IfOk result (IsReady self.new) }
         ensures same { SameTables self.old self.new }
@@ -294,7 +299,9 @@ impl Manager {
         self.logs.reserve()
     }
 
-    /// Gives an owner, 0 for the cleaner and else a client, a new log. Its former log ends.
+    /// Gives an owner, 0 for the cleaner and else a client, a new log, without memory. Its former log ends. It needs room for
+    /// a log (`room`) and a next number below 4,294,967,295. The number of the next entry rises too; at 2^48 it stands still,
+    /// which `prepare` refuses.
     pub fn attach(&mut self, owner: u8) -> LogId
         requires room { 1 ≤ self.old.log_room }
         requires next { self.old.tables.next_log < last_number }
@@ -312,7 +319,7 @@ impl Manager {
         log
     }
 
-    /// Sets the members. While a server is out or mending, logs commit behind their last stripes alone.
+    /// Sets the members, without memory. While a server is out or mending, logs commit behind their last stripes alone.
     pub fn set_members(&mut self, members: Members)
         ensures tables { self.new.tables ≡ with_members self.old.tables members }
         ensures sizes { self.new.sizes ≡ self.old.sizes }
@@ -326,7 +333,7 @@ impl Manager {
         self.next_entry = risen(self.next_entry);
     }
 
-    /// A stripe isn't held any longer.
+    /// A stripe isn't held any longer. Takes no memory.
     pub fn drop_stripe(&mut self, log: LogId, stripe: u64)
         ensures tables { self.new.tables ≡ after_retire self.old.tables log stripe }
         ensures sizes { self.new.sizes ≡ self.old.sizes }
@@ -339,11 +346,10 @@ impl Manager {
 
     /// Has a client hold the file manager. Refused exactly where another holds.
     pub fn hold(&mut self, client: u8) -> Result<(), Blocked>
-        ensures ok { OnOk result (self.new.holder ≡ Some client) }
+        ensures ok { OnOk result (self.new ≡ held_by (Some client) self.old) }
         ensures free { OnOk result (IsFreeFor client self.old.holder) }
         ensures blocked { IfErr result (λ blocked. (self.old.holder ≡ Some blocked.holder) × (blocked.holder ≢ client)) }
-        ensures err { OnErr result (self.new.holder ≡ self.old.holder) }
-        ensures tables { self.new.tables ≡ self.old.tables }
+        ensures err { OnErr result (self.new ≡ self.old) }
     {
         if let Some(holder) = self.holder {
             if holder != client {
@@ -363,10 +369,36 @@ impl Manager {
 
     /// Nobody holds.
     pub fn release(&mut self)
-        ensures holder { self.new.holder ≡ None }
-        ensures tables { self.new.tables ≡ self.old.tables }
+        ensures { self.new ≡ held_by None self.old }
     {
         self.holder = None;
+    }
+
+    /// The number that the next log gets, from 1. At 4,294,967,295 no log is attached any more.
+    pub fn next_log(&self) -> u32
+        ensures { result ≡ self.now.tables.next_log }
+    {
+        self.next_log
+    }
+
+    /// The servers that take part, with their generation.
+    pub fn members(&self) -> Members
+        ensures { result ≡ self.now.tables.members }
+    {
+        self.members
+    }
+
+    /// A log, as a status tells it. None where it neither lives nor has a held stripe.
+    pub fn log(&self, log: LogId) -> Option<LogUse>
+        ensures { result ≡ option_map (λ l. use_of (log.0, l)) (look log.0 self.now.tables.logs) }
+    {
+        let found = self.logs.find(log)?;
+        Some(LogUse {
+            log,
+            live: found.live,
+            last: found.last,
+            batch: found.batch,
+        })
     }
 
     /// The names.
@@ -397,14 +429,15 @@ impl Manager {
         })
     }
 
-    /// The pointers into a stripe, by file and block, each with its file's version.
+    /// The pointers into a stripe, by file and block, each with its file's version and no old pointer. It goes through all
+    /// blocks.
     pub fn live(&self, alloc: Global, log: LogId, stripe: u64) -> Mem<Vec<Body>>
         ensures { IfOk result (λ found. found.items ≡ live self.now.tables log stripe) }
     {
         self.pointers.live(alloc, log, stripe)
     }
 
-    /// The logs and held stripes.
+    /// The logs and held stripes, the members and the next log's number. It goes through all logs and held stripes.
     pub fn status(&self, alloc: Global) -> Mem<Status>
         ensures { IfOk result (λ s. s ≡ status self.now.tables) }
     {

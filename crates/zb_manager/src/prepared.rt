@@ -2,7 +2,8 @@ use crate::log::ReplyList;
 use crate::work::Work;
 use zb_types::{LogId, PieceList};
 
-/// A batch that can be committed without memory.
+/// A batch that can be committed without memory. Its replies go with it into the tables: who needs them behind `apply`
+/// copies them before, or takes them from `last`.
 #[derive(Drop)]
 pub struct Prepared {
     /// The replies to its operations, in order; none for a clean.

@@ -10,3 +10,4 @@ pub mod Committing
 pub mod Changing
 pub mod Beginning
 pub mod Recovering
+pub mod Owned

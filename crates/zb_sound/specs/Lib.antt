@@ -4,3 +4,4 @@ pub mod Staying
 pub mod Raising
 pub mod Committing
 pub mod Changing
+pub mod Owning

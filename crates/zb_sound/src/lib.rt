@@ -6,6 +6,7 @@
 mod changes;
 mod commits;
 mod flushes;
+mod owners;
 mod recovery;
 
 pub use changes::{changes_keep, contents_may_grow, finish_keeps};
@@ -14,4 +15,5 @@ pub use flushes::{
     changes_leave_parts, flush_at_work, flush_stays, log_goes_on, parts_make_contents,
     requests_beside_keep,
 };
+pub use owners::log_of_an_owner;
 pub use recovery::{first_platters_stand, sound_recovers};

@@ -16,3 +16,4 @@ pub mod First
 pub mod Logs
 pub mod Lookups
 pub mod Versions
+pub mod Living

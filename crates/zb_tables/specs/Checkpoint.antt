@@ -36,7 +36,6 @@ pub record IsFile (z : Sizes) (next : ℕ) (e : ℕ × FileState) : Type 0 where
   pub version : (1 ≤ (e.1).version) × ((e.1).version ≤ last_value)
   pub short : (e.1).length ≤ max_file
   pub numbers : AllByRecursion (λ k. k.0 < 2 ^ 32) (e.1).blocks
-  pub few : length (e.1).blocks < 2 ^ 32
   pub rising : IsStrictlySortedBy nat_cmp (keys_of (e.1).blocks)
   pub pointers : AllByRecursion (λ k. IsPointer z k.1 × IsPlace k.1) (e.1).blocks
 
@@ -58,7 +57,6 @@ pub record IsLog (z : Sizes) (next : ℕ) (held : List HeldUse) (e : ℕ × LogS
   pub last : IfSome (e.1).last (λ stripe. stripe + 1 < 2 ^ 64)
   pub mark : (e.1).mark < 2 ^ 64
   pub replies : AllByRecursion IsUpdateReply (e.1).replies
-  pub few : length (e.1).replies < 2 ^ 32
   pub kept : ((e.1).live ≡ true) ⊎ ((stripe : ℕ) × IsSome (held_at (record { 0 = e.0 }) stripe held))
 
 -- by log and stripe
@@ -89,3 +87,11 @@ pub record AreTables (z : Sizes) (t : Tables) : Type 0 where
   pub generation : (1 ≤ t.members.generation) × (t.members.generation ≤ last_value)
   pub next_log : (1 ≤ t.next_log) × (t.next_log ≤ last_number)
   pub next_entry : (1 ≤ t.next_entry) × (t.next_entry ≤ last_value)
+
+-- each count of the tables' lists has four bytes, so that they can be spelled
+pub record CountsFit (t : Tables) : Type 0 where
+  pub blocks : AllByRecursion (λ e. length (e.1).blocks < 2 ^ 32) t.files
+  pub replies : AllByRecursion (λ e. length (e.1).replies < 2 ^ 32) t.logs
+  pub files : length t.files < 2 ^ 32
+  pub logs : length t.logs < 2 ^ 32
+  pub held : length t.held < 2 ^ 32

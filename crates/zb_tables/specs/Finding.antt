@@ -1,5 +1,5 @@
 -- What is looked up in the tables.
-use Rattle.std.specs.Prelude.{ℕ, ◌+◌, ◌&&◌, nat_le, nat_lt, List, [], map, filter, Option, Some, None}
+use Rattle.std.specs.Prelude.{ℕ, ◌+◌, Bool, ◌==◌, ◌&&◌, nat_le, nat_lt, List, [], map, filter, Option, Some, None}
 use Rattle.std.specs.List.{flat_map}
 use Rattle.zb_types.specs.declared.ids.LogId.{LogId}
 use Rattle.zb_types.specs.declared.ids.Ptr.{Ptr}
@@ -9,7 +9,7 @@ use Rattle.zb_types.specs.declared.tables.LogUse.{LogUse}
 use Rattle.zb_types.specs.declared.tables.Status.{Status}
 use Rattle.zb_types.specs.Keyed.{look}
 use Rattle.zb_delta.specs.declared.delta.Body.{Body}
-use Rattle.zb_tables.specs.Tables.{FileState, LogState, Tables, is_of}
+use Rattle.zb_tables.specs.Tables.{FileState, LogState, Tables}
 
 -- the blocks with `count` numbers from `first` on
 abbrev pub among : ℕ → ℕ → List (ℕ × Ptr) → List (ℕ × Ptr)
@@ -24,11 +24,15 @@ found_in members first count (Some file) = record { version = file.version; leng
 abbrev pub found : Tables → ℕ → ℕ → ℕ → Found
 found t fid first count = found_in t.members first count (look fid t.files)
 
+-- does the pointer lie in this stripe?
+abbrev pub is_into : LogId → ℕ → Ptr → Bool
+is_into log stripe p = p.log.0 == log.0 && p.stripe == stripe
+
 -- the pointers of a file into a stripe, with the file's version
 abbrev pub live_in : LogId → ℕ → ℕ × FileState → List Body
 live_in log stripe e =
     map (λ k. record { fid = record { 0 = e.0 }; version = (e.1).version; block = k.0; was = None; now = k.1 })
-    (filter (λ k. is_of log stripe (record { log = (k.1).log; stripe = (k.1).stripe; end = 0; born = 0 })) (e.1).blocks)
+    (filter (λ k. is_into log stripe k.1) (e.1).blocks)
 
 -- the pointers into a stripe, by file and block
 abbrev pub live : Tables → LogId → ℕ → List Body

@@ -18,6 +18,7 @@ ghost use Rattle.zb_tables.specs.Replay.{EntriesIn, IsBatchOf, Replays, held_all
 ghost use Rattle.zb_tables.specs.Taking.{AreTaken, IsTaken, PointsElsewhere, Sizes};
 ghost use Rattle.zb_tables.specs.Shown.{Shows};
 ghost use Rattle.zb_tables.specs.Checkpoint.{AreTables};
+ghost use Rattle.zb_tables.specs.Finding.{live};
 ghost use Rattle.zb_tables.specs.Tail.{tail_contents, tail_file};
 
 /// A batch that is made of updates isn't stale, shows what the updates leave, and has their replies.
@@ -92,4 +93,10 @@ pub fn pointers_stay_in_what_is_held()
 /// The tables before the first entry are those of a checkpoint.
 pub fn first_tables_are_of_a_checkpoint()
     ensures { (z : Sizes) → AreTables z first_tables }
+{}
+
+/// No pointer lives in a stripe exactly where each pointer of each file names another.
+pub fn nothing_lives_where_all_point_elsewhere()
+    ensures none { (t : Tables) (log : LogId) (stripe : ℕ) → live t log stripe ≡ [] → EachFile (PointsElsewhere log stripe) t.files }
+    ensures some { (t : Tables) (log : LogId) (stripe : ℕ) → EachFile (PointsElsewhere log stripe) t.files → live t log stripe ≡ [] }
 {}

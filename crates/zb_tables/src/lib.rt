@@ -8,8 +8,9 @@ mod lookup_laws;
 
 pub use laws::{
     batch_shows_updates, clean_leaves_files, clean_leaves_heads, committed_bytes_decide,
-    current_lookup_merges, first_tables_are_of_a_checkpoint, pointers_stay_in_what_is_held,
-    replay_is_one, tail_shows_again, taken_entries_are_replayed,
+    current_lookup_merges, first_tables_are_of_a_checkpoint,
+    nothing_lives_where_all_point_elsewhere, pointers_stay_in_what_is_held, replay_is_one,
+    tail_shows_again, taken_entries_are_replayed,
 };
 pub use log_laws::{
     attach_leaves_logs, commit_leaves_logs, last_stripe_is_greatest, mark_leaves_logs,

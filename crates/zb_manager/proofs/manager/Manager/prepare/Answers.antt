@@ -10,7 +10,7 @@ use Rattle.zb_manager.specs.HeldStripes.{EndFits}
 use Rattle.zb_manager.specs.Logs.{StripeFits}
 use Rattle.zb_manager.specs.declared.prepared.Prepared.{Prepared}
 use Rattle.zb_manager.proofs.Planned.{batch_work}
-use Rattle.zb_manager.proofs.Preparing.{ends_fit, stripes_fit, regen_answers}
+use Rattle.zb_manager.proofs.Preparing.{ends_fit, stripes_fit, regen_answers, regen_members}
 use Rattle.zb_manager.proofs.Rooms.{ok_is}
 use Rattle.zb_manager.proofs.manager.Manager.prepare.Goals as goal
 
@@ -37,3 +37,7 @@ returns-clause-ready c =
       ends = subst (λ (ps : List Piece). AllByRecursion EndFits ps) (sym pieces) (ends_fit c.args.self.now.sizes c.args.pieces.now c.make_room.ensures.small within);
       stripes = subst (λ (ps : List Piece). AllByRecursion StripeFits ps) (sym pieces) (stripes_fit c.args.self.now.sizes c.args.pieces.now within);
     }
+
+pub returns-in-Some-clause-members : goal.returns-in-Some-clause-members
+returns-in-Some-clause-members c err =
+    regen_members Prepared c.args.self.now.tables c.args.batch.now.log c.args.pieces.now c.args.generation c.in-Some.fault (sym c.regen.ensures ∙ c.in-Some.is) err

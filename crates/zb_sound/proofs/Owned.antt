@@ -1,5 +1,5 @@
 -- What entries leave of the log of an owner.
-use Rattle.std.proofs.Common.{◌≡◌, ◌≢◌, ℕ, Bool, true, List, [], Option, Some, None, refl, sym, ap, ◌∙◌, subst}
+use Rattle.std.proofs.Common.{◌≡◌, ◌≢◌, ℕ, List, Option, None, refl, sym, ap, ◌∙◌}
 use Rattle.zb_types.specs.declared.ids.LogId.{LogId}
 use Rattle.zb_types.specs.declared.ids.ServerId.{ServerId}
 use Rattle.zb_types.specs.declared.ids.Piece.{Piece}
@@ -8,7 +8,7 @@ use Rattle.zb_types.specs.declared.nodes.State.{State}
 use Rattle.zb_types.specs.declared.nodes.State.TheVariants.{Whole, Out, Mending}
 use Rattle.zb_types.specs.Keyed.{look, changed}
 use Rattle.zb_types.proofs.KeyedLists.{look-put_same, look-put_other}
-use Rattle.zb_tables.specs.Tables.{LogState, Tables}
+use Rattle.zb_tables.specs.Tables.{Tables}
 use Rattle.zb_tables.specs.Fold.{Shelf, after_retire, all_marked, attached, committed, ended, following, kept_logs, last_of, new_log, retired, with_members}
 use Rattle.zb_tables.proofs.Logs.{attach_other, commit_log, commit_other, live_kept, mark_live}
 use Rattle.zb_sound.specs.Owning.{LogIs}

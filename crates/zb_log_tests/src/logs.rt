@@ -4,8 +4,7 @@ ghost use Rattle.zb_log.specs.Placing.{last_stripe};
 use std::alloc::Global;
 use std::test::Fail;
 use zb_log::{LogBuf, LogFault, Placed, no_address_twice};
-use zb_parity::parity_of;
-use zb_types::{ByteList, Geometry, LogId, Mem, Piece, Ptr};
+use zb_types::{ByteList, Geometry, LogId, Piece, Ptr};
 
 /// The stripe of a part, where its new bytes begin, how many they are, the first of them, and how long its parity is.
 type Told = (u64, u32, usize, Option<u8>, usize);
@@ -59,54 +58,115 @@ fn ptr(stripe: u64, offset: u32, len: u32) -> Ptr {
     }
 }
 
+/// Places and seals a batch of a meta part alone, of so many bytes, and lets the log go on behind it.
+fn commit_meta(log: &mut LogBuf, alloc: Global, len: u32) -> Result<Placed, LogFault> {
+    let placed = log.place(alloc, len, &[])?;
+    let meta = ByteList::of(vec![in alloc; 7u8; len as usize]?);
+    let fresh = log.seal(alloc, &placed, &meta, &[])?;
+    log.go_on(&placed, fresh);
+    Ok(placed)
+}
+
 #[test]
 fn a_write_follows_a_create(rt: HostRuntime) -> Result<(), Fail> {
     let alloc = rt.alloc();
     let geo = Geometry::new(3, 1, 256, 64, 8)?;
     let mut log = LogBuf::new(alloc, &geo, LogId(1))?;
-    let created = log.place(alloc, 45, &[])?;
+    let created = commit_meta(&mut log, alloc, 45)?;
     assert_eq!(rt; created.pieces.slice(), [piece(0, 0, 45)].as_slice());
-    let meta = ByteList::of(vec![in alloc; 7u8; 45]?);
-    let fresh = log.seal(alloc, &created, &meta, &[])?;
-    log.go_on(&created, fresh);
-    let written = log.place(alloc, 132, &[5])?;
-    assert_eq!(rt; written.pieces.slice(), [piece(0, 45, 137)].as_slice());
-    assert_eq!(rt; written.ptrs.slice(), [ptr(0, 177, 5)].as_slice());
+    let written = commit_meta(&mut log, alloc, 132)?;
+    assert_eq!(rt; written.pieces.slice(), [piece(0, 45, 132)].as_slice());
     no_address_twice();
     Ok(())
+}
+
+/// What a batch is to be told as: its pieces, its block's place, and the new bytes of its parts.
+#[derive(Drop)]
+struct Wanted {
+    pieces: [Piece; 2],
+    block: Ptr,
+    parts: [Told; 2],
+}
+
+impl Wanted {
+    fn is_told(&self, placed: &Placed, told: &[Told]) -> bool {
+        placed.pieces.slice() == self.pieces.as_slice()
+            && placed.ptrs.slice() == [self.block].as_slice()
+            && told == self.parts.as_slice()
+    }
+}
+
+/// The first batch fills stripe 0 but for 32 bytes, and its block goes to the next.
+fn first_wanted(room: u32) -> Wanted
+    requires { (512 ≤ room) × (room ≤ 65536) }
+{
+    Wanted {
+        pieces: [piece(0, 0, room - 32), piece(1, 0, 64)],
+        block: ptr(1, 0, 64),
+        parts: [
+            (0, 0, room as usize - 32, Some(7), 256),
+            (1, 0, 64, Some(9), 64),
+        ],
+    }
+}
+
+/// The second one fills stripe 1, and goes on in stripe 2.
+fn second_wanted(room: u32) -> Wanted
+    requires { (512 ≤ room) × (room ≤ 65536) }
+{
+    Wanted {
+        pieces: [piece(1, 64, room - 64), piece(2, 0, 128)],
+        block: ptr(2, 64, 64),
+        parts: [
+            (1, 64, room as usize - 64, Some(7), 256),
+            (2, 0, 128, Some(7), 128),
+        ],
+    }
+}
+
+/// Commits a batch with a block of 64 bytes, and says whether it is told as wanted.
+fn is_committed(
+    log: &mut LogBuf,
+    alloc: Global,
+    meta: u32,
+    wanted: &Wanted,
+) -> Result<bool, LogFault>
+    requires fits { 64 ≤ log.old.block }
+    ensures block { OnOk result (log.new.block ≡ log.old.block) }
+{
+    let (placed, told) = commit(log, alloc, meta, 64)?;
+    Ok(wanted.is_told(&placed, &told))
+}
+
+/// A log over the stripes of so many servers.
+fn goes_on(alloc: Global, servers: u32) -> Result<bool, Fail>
+    requires { (3 ≤ servers) × (servers ≤ 16) }
+{
+    let geo = Geometry::new(servers, 1, 256, 64, 8)?;
+    let room = (servers - 1) * 256;
+    let mut log = LogBuf::new(alloc, &geo, LogId(1))?;
+    let first = is_committed(&mut log, alloc, room - 32, &first_wanted(room))?;
+    let second = is_committed(&mut log, alloc, room, &second_wanted(room))?;
+    Ok(first && second)
 }
 
 #[test]
 fn a_log_goes_on_over_stripes(rt: HostRuntime) -> Result<(), Fail> {
     for servers in [3, 16] {
-        let geo = Geometry::new(servers, 1, 256, 64, 8)?;
-        let room = (servers - 1) * 256;
-        let mut log = LogBuf::new(rt.alloc(), &geo, LogId(1))?;
-        let (first, told) = commit(&mut log, rt.alloc(), room - 32, 64)?;
-        let pieces = [piece(0, 0, room - 32), piece(1, 0, 64)];
-        assert_eq!(rt; first.pieces.slice(), pieces.as_slice());
-        assert_eq!(rt; first.ptrs.slice(), [ptr(1, 0, 64)].as_slice());
-        let parts = [
-            (0, 0, room as usize - 32, Some(7), 256),
-            (1, 0, 64, Some(9), 64),
-        ];
-        assert_eq!(rt; told.as_slice(), parts.as_slice());
-
-        let (second, told) = commit(&mut log, rt.alloc(), room, 64)?;
-        let pieces = [piece(1, 64, room - 64), piece(2, 0, 128)];
-        assert_eq!(rt; second.pieces.slice(), pieces.as_slice());
-        assert_eq!(rt; second.ptrs.slice(), [ptr(2, 64, 64)].as_slice());
-        let parts = [
-            (1, 64, room as usize - 64, Some(7), 256),
-            (2, 0, 128, Some(7), 128),
-        ];
-        assert_eq!(rt; told.as_slice(), parts.as_slice());
-
-        log.next_stripe(second.next.stripe);
-        let third = log.place(rt.alloc(), 10, &[1])?;
-        assert_eq!(rt; third.pieces.slice(), [piece(3, 0, 11)].as_slice());
-        assert_eq!(rt; third.ptrs.slice(), [ptr(3, 10, 1)].as_slice());
+        assert!(rt; goes_on(rt.alloc(), servers)?);
     }
+    Ok(())
+}
+
+#[test]
+fn a_log_goes_on_behind_a_stripe(rt: HostRuntime) -> Result<(), Fail> {
+    let geo = Geometry::new(3, 1, 256, 64, 8)?;
+    let mut log = LogBuf::new(rt.alloc(), &geo, LogId(1))?;
+    let (first, _) = commit(&mut log, rt.alloc(), 480, 64)?;
+    log.next_stripe(first.next.stripe);
+    let then = log.place(rt.alloc(), 10, &[1])?;
+    assert_eq!(rt; then.pieces.slice(), [piece(2, 0, 11)].as_slice());
+    assert_eq!(rt; then.ptrs.slice(), [ptr(2, 10, 1)].as_slice());
     Ok(())
 }
 
@@ -122,54 +182,5 @@ fn the_last_stripe_is_filled(rt: HostRuntime) -> Result<(), Fail> {
     );
     let fault = log.place(rt.alloc(), 1, &[]).err();
     assert_eq!(rt; fault, Some(LogFault::Worn));
-    Ok(())
-}
-
-/// Commits a batch of so many bytes more, which differ, and gives the parity of its stripe.
-fn grow(
-    log: &mut LogBuf,
-    alloc: Global,
-    all: &mut Vec<u8>,
-    len: u32,
-) -> Result<Option<ByteList>, LogFault> {
-    let mut new = Vec::new(alloc);
-    for i in 0..len {
-        new.push((i * 37 % 251) as u8)?;
-    }
-    all.extend_from_slice(&new)?;
-    let meta = ByteList::of(new);
-    let placed = log.place(alloc, len, &[])?;
-    let fresh = log.seal(alloc, &placed, &meta, &[])?;
-    let parity = match fresh.parts.get(0) {
-        Some(part) => Some(part.parity.copy(alloc)?),
-        None => None,
-    };
-    log.go_on(&placed, fresh);
-    Ok(parity)
-}
-
-/// The parity of a stripe's bytes in fragments of 256 bytes, made anew.
-fn parity_anew(alloc: Global, all: &[u8]) -> Mem<ByteList> {
-    let mut shares = Vec::new(alloc);
-    for share in all.chunks(256) {
-        shares.push(ByteList::from_slice(alloc, share)?)?;
-    }
-    parity_of(alloc, &shares)
-}
-
-#[test]
-fn a_parity_grows_as_it_is_made_anew(rt: HostRuntime) -> Result<(), Fail> {
-    let geo = Geometry::new(4, 1, 256, 64, 8)?;
-    let mut log = LogBuf::new(rt.alloc(), &geo, LogId(1))?;
-    let mut all = Vec::new(rt.alloc());
-    for len in [200, 100, 300] {
-        match grow(&mut log, rt.alloc(), &mut all, len)? {
-            Some(parity) => {
-                let anew = parity_anew(rt.alloc(), &all)?;
-                assert_eq!(rt; parity.slice(), anew.slice());
-            }
-            None => assert!(rt; false, "a batch has a part"),
-        }
-    }
     Ok(())
 }

@@ -39,23 +39,29 @@ fn a_directory_is_renamed_with_what_lies_below(rt: HostRuntime) -> Result<(), Fa
     Ok(())
 }
 
+/// Prepares an operation, and carries it out.
+fn carry(names: &mut Names, alloc: Global, call: &Call) -> Result<(), Fail> {
+    let prepared = names.prepare(alloc, call)?;
+    names.apply(prepared);
+    Ok(())
+}
+
+/// Makes a file, and moves it.
+fn make_and_move(alloc: Global) -> Result<Names, Fail> {
+    let mut names = Names::new(alloc)?;
+    carry(&mut names, alloc, &Call::Create(path(alloc, b"/a")?))?;
+    let from = path(alloc, b"/a")?;
+    carry(&mut names, alloc, &Call::Rename(from, path(alloc, b"/b")?))?;
+    Ok(names)
+}
+
 #[test]
 fn prepared_operations_are_carried_out(rt: HostRuntime) -> Result<(), Fail> {
     let alloc = rt.alloc();
-    let mut names = Names::new(alloc)?;
-    let calls = [
-        Call::Mkdir(path(alloc, b"/a")?),
-        Call::Create(path(alloc, b"/a/x")?),
-        Call::Create(path(alloc, b"/a!")?),
-        Call::Rename(path(alloc, b"/a")?, path(alloc, b"/b")?),
-        Call::Remove(path(alloc, b"/a!")?),
-        Call::Sync,
-    ];
-    for call in &calls {
-        let prepared = names.prepare(alloc, call)?;
-        names.apply(prepared);
-    }
-    assert_eq!(rt; text_of(alloc, &names)?.as_slice(), b"/b /b/x ".as_slice());
-    assert_eq!(rt; names.next(), 3);
+    let mut names = make_and_move(alloc)?;
+    assert_eq!(rt; text_of(alloc, &names)?.as_slice(), b"/b ".as_slice());
+    carry(&mut names, alloc, &Call::Remove(path(alloc, b"/b")?))?;
+    assert_eq!(rt; names.count(), 0);
+    assert_eq!(rt; names.next(), 2);
     Ok(())
 }

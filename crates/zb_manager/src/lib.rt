@@ -4,6 +4,7 @@
 
 mod cleaning;
 mod drafts;
+mod fitting;
 mod held;
 mod laws;
 mod log;
@@ -12,6 +13,7 @@ mod manager;
 mod planning;
 mod prepared;
 mod reserving;
+mod values;
 mod work;
 mod working;
 

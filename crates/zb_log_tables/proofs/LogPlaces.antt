@@ -1,7 +1,7 @@
--- Logs by number: a search by halves, and what is found and replaced.
-use Rattle.std.proofs.Common.{◌≡◌, ℕ, zero, suc, ◌+◌, ◌<◌, ◌≤◌, List, [], ◌∷◌, length, get_or, set, Option, Some, None, refl, sym, ap, subst, inl, inr, arith}
+-- Logs by number: where one stands, and what is found and replaced.
+use Rattle.std.proofs.Common.{ltb, ◌≡◌, ℕ, zero, suc, ◌+◌, ◌<◌, ◌≤◌, List, [], ◌∷◌, length, get_or, set, Option, Some, None, refl, sym, ap, subst, inl, inr, arith}
 use Rattle.std.specs.List.{AllByRecursion}
-use Rattle.std.specs.List.Sorted.{IsStrictlySortedBy}
+use Rattle.std.specs.List.Sorted.{IsStrictlySortedBy, IsNonDecreasingBy, IsPartitionPoint}
 use Rattle.std.specs.Map.{keys_of}
 use Rattle.std.specs.Ordering.{nat_cmp}
 use Rattle.std.proofs.lemmas.Bool.{cases_order}
@@ -10,7 +10,7 @@ use Rattle.zb_types.specs.Keyed.{look, replaced}
 use Rattle.zb_types.proofs.KeyedLists.{KeysAbove, IsRising, IsRising-from_ordered, look-below}
 use Rattle.zb_tables.specs.Tables.{LogState}
 use Rattle.zb_log_tables.specs.declared.log.Log.{Log}
-use Rattle.std.specs.Prelude.{◌++◌}
+use Rattle.std.specs.Prelude.{◌++◌, true, false}
 use Rattle.std.specs.declared.cmp.Ordering.TheVariants.{Less}
 use Rattle.zb_types.specs.declared.ids.Piece.{Piece}
 use Rattle.zb_tables.specs.Tables.{last_value}
@@ -34,39 +34,9 @@ rise_at (e ∷ es) i zero rising lt within = absurd (omega arith)
 rise_at (e ∷ es) zero (suc j) rising lt within = above_at e.0 es j rising.0 (omega arith)
 rise_at (e ∷ es) (suc i) (suc j) rising lt within = rise_at es i j rising.1 (omega arith) (omega arith)
 
-pub record Between (es : Keyed) (n low high : ℕ) : Type 0 where
-  pub in_order : low ≤ high
-  pub within : high ≤ length es
-  pub before : (j : ℕ) → j < low → number_at es j < n
-  pub behind : (j : ℕ) → high ≤ j → j < length es → n ≤ number_at es j
-
-pub raise_low : (es : Keyed) (n low high middle : ℕ) → IsRising es → Between es n low high → low ≤ middle → middle < high → number_at es middle < n → Between es n (middle + 1) high
-raise_low es n low high middle rising b le lt less =
-    let w = b.within in
-    record {
-      in_order = omega arith;
-      within = b.within;
-      before = λ j to. elim (cases_order j middle) as (λ _. number_at es j < n) [
-        | inl same ↦ subst (λ k. number_at es k < n) (sym same) less
-        | inr (inl low_j) ↦ let r = rise_at es j middle rising low_j (omega arith) in omega arith
-        | inr (inr high_j) ↦ absurd (omega arith)
-      ];
-      behind = b.behind;
-    }
-
-pub lower_high : (es : Keyed) (n low high middle : ℕ) → IsRising es → Between es n low high → low ≤ middle → middle < high → n ≤ number_at es middle → Between es n low middle
-lower_high es n low high middle rising b le lt more =
-    let w = b.within in
-    record {
-      in_order = le;
-      within = omega arith;
-      before = b.before;
-      behind = λ j from to. elim (cases_order middle j) as (λ _. n ≤ number_at es j) [
-        | inl same ↦ subst (λ k. n ≤ number_at es k) same more
-        | inr (inl low_j) ↦ let r = rise_at es middle j rising low_j to in omega arith
-        | inr (inr high_j) ↦ absurd (omega arith)
-      ];
-    }
+-- a log, for the places where there is none
+no_log : Log
+no_log = record { number = 0; owner = 0; live = false; batch = 0; replies = []; last = None; mark = 0 }
 
 pub number_of : (ls : List Log) (i : ℕ) (d : Log) → i < length ls → number_at (states_of ls) i ≡ (get_or ls i d).number
 number_of [] i d lt = absurd (omega arith)
@@ -76,6 +46,21 @@ number_of (l ∷ ls) (suc i) d lt = number_of ls i d (omega arith)
 pub length_states : (ls : List Log) → length (states_of ls) ≡ length ls
 length_states [] = refl
 length_states (l ∷ ls) = ap suc (length_states ls)
+
+-- numbers don't fall
+pub numbers_rise : (ls : List Log) → IsRising (states_of ls) → IsNonDecreasingBy (λ l. l.number) ls
+numbers_rise ls rising i j d le lt = elim (cases_order i j) as (λ _. (get_or ls i d).number ≤ (get_or ls j d).number) [
+  | inl same ↦ subst (λ k. (get_or ls i d).number ≤ (get_or ls k d).number) same (omega arith)
+  | inr (inl low) ↦ let r = rise_at (states_of ls) i j rising low (omega (arith, length_states ls)) in omega (arith, number_of ls i d (omega arith), number_of ls j d lt)
+  | inr (inr high) ↦ absurd (omega arith)
+]
+
+-- the place that a search by halves finds
+pub place_found : (ls : List Log) (n i : ℕ) → i ≤ length ls → IsPartitionPoint (λ l. ltb l.number n ≡ true) (λ l. ltb l.number n ≡ false) ls i → IsPlace (states_of ls) n i
+place_found ls n i le p = record {
+  before = λ j lt. grind (arith, nat_tests, number_of ls j no_log (omega arith), p.0 j no_log (omega arith) lt);
+  behind = λ j from lt. let within : j < length ls = omega (arith, length_states ls) in grind (arith, nat_tests, number_of ls j no_log within, p.1 j no_log from within);
+}
 
 place_rest : (e : ℕ × LogState) (es : Keyed) (n i : ℕ) → IsPlace (e ∷ es) n (suc i) → IsPlace es n i
 place_rest e es n i p = record { before = λ j lt. p.before (suc j) (omega arith); behind = λ j le lt. p.behind (suc j) (omega arith) (omega arith) }

@@ -181,46 +181,6 @@ rising_filter test (g ∷ gs) rising =
 
 -- ---- a search by halves
 
-pub record Between (hs : List H) (key : H) (low high : ℕ) : Type 0 where
-  pub in_order : low ≤ high
-  pub within : high ≤ length hs
-  pub before : (j : ℕ) (d : H) → j < low → is_before (get_or hs j d) key ≡ true
-  pub behind : (j : ℕ) (d : H) → high ≤ j → j < length hs → is_before (get_or hs j d) key ≡ false
-
-pub begin_between : (hs : List H) (key : H) (n : ℕ) → n ≡ length hs → Between hs key 0 n
-begin_between hs key n e = record { in_order = omega arith; within = omega arith; before = λ j d lt. absurd (omega arith); behind = λ j d le lt. absurd (omega arith) }
-
-pub raise_low : (hs : List H) (key : H) (low high middle : ℕ) (h : H) → Rising hs → Between hs key low high → low ≤ middle → middle < high → ((d : H) → get_or hs middle d ≡ h) → is_before h key ≡ true → Between hs key (middle + 1) high
-raise_low hs key low high middle h rising b le lt at p =
-    let w = b.within in
-    record {
-      in_order = omega arith;
-      within = b.within;
-      before = λ j d less. parts hs key rising j middle d (omega arith) (omega arith) (ap (λ k. is_before k key) (at d) ∙ p);
-      behind = b.behind;
-    }
-
-not_both : (b : Bool) → b ≡ true → b ≡ false → ⊥
-not_both true p q = absurd cc
-not_both false p q = absurd cc
-
-is_false : (b : Bool) → (b ≡ true → ⊥) → b ≡ false
-is_false true isnt = absurd (isnt refl)
-is_false false isnt = refl
-
-pub lower_high : (hs : List H) (key : H) (low high middle : ℕ) (h : H) → Rising hs → Between hs key low high → low ≤ middle → middle < high → ((d : H) → get_or hs middle d ≡ h) → is_before h key ≡ false → Between hs key low middle
-lower_high hs key low high middle h rising b le lt at p =
-    let w = b.within in
-    record {
-      in_order = le;
-      within = omega arith;
-      before = b.before;
-      behind = λ j d from less. is_false (is_before (get_or hs j d) key) (λ t. not_both (is_before h key) (sym (ap (λ k. is_before k key) (at d)) ∙ parts hs key rising middle j d from less t) p);
-    }
-
-pub place_found : (hs : List H) (key : H) (low high : ℕ) → Between hs key low high → high ≤ low → Place hs key low
-place_found hs key low high b le = record { before = b.before; behind = λ j d from less. b.behind j d (omega arith) less }
-
 -- ---- a stripe that is dropped
 
 none_of : (log : LogId) (stripe : ℕ) (g : H) (hs : List H) → is_of log stripe g ≡ true → AllAfter g hs → retired log stripe hs ≡ hs

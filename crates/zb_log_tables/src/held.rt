@@ -33,6 +33,7 @@ impl Model for HeldTable {
 }
 
 impl HeldTable {
+    /// No stripes.
     pub fn new(alloc: Global) -> HeldTable
         ensures { result.stripes ≡ [] }
     {
@@ -46,17 +47,8 @@ impl HeldTable {
         ensures bound { result ≤ length self.now.stripes }
         ensures place { IsPlace self.now.stripes log stripe result }
     {
-        let mut low = 0;
-        let mut high = self.stripes.len();
-        while low < high {
-            let middle = low + (high - low) / 2;
-            if is_before(&self.stripes[middle], log, stripe) {
-                low = middle + 1;
-            } else {
-                high = middle;
-            }
-        }
-        low
+        self.stripes
+            .partition_point(|held| is_before(held, log, stripe))
     }
 
     // Whether a stripe is at this place.
@@ -71,6 +63,7 @@ impl HeldTable {
         h.log.0 == log.0 && h.stripe == stripe
     }
 
+    /// A held stripe. None where it isn't held.
     pub fn find(&self, log: LogId, stripe: u64) -> Option<HeldUse>
         ensures { result ≡ held_at log stripe self.now.stripes }
     {
@@ -93,6 +86,7 @@ impl HeldTable {
         }
     }
 
+    /// Makes room for so many more stripes.
     pub fn reserve(&mut self, count: usize) -> Mem<()>
         ensures same { self.new.stripes ≡ self.old.stripes }
         ensures ok { OnOk result (count ≤ self.new.room) }
@@ -102,7 +96,8 @@ impl HeldTable {
         Ok(())
     }
 
-    /// Raises a stripe's committed end to that of a piece of entry `born`, without memory.
+    /// Raises a stripe's committed end, in bytes, to that of a piece, without memory. A stripe that wasn't held is from now
+    /// on, born by entry `born`; there has to be room for it.
     pub fn raise(&mut self, log: LogId, born: u64, piece: &Piece)
         requires room { 1 ≤ self.old.room }
         requires end { EndFits piece.now }
@@ -143,7 +138,7 @@ impl HeldTable {
         }
     }
 
-    /// A stripe isn't held any longer.
+    /// A stripe isn't held any longer, if it was.
     pub fn retire(&mut self, log: LogId, stripe: u64)
         ensures stripes { self.new.stripes ≡ retired log stripe self.old.stripes }
         ensures room { self.old.room ≤ self.new.room }
@@ -155,6 +150,7 @@ impl HeldTable {
         }
     }
 
+    /// The stripes, by log and stripe.
     pub fn slice(&self) -> &[HeldUse]
         ensures { result.now ≡ self.now.stripes }
     {

@@ -11,10 +11,15 @@ pub type ReplyList = ItemList<Reply>;
 #[derive(Drop)]
 pub struct Log {
     pub number: u32,
+    /// Whose it is: a client from 1 to 8, or 0 for the cleaner.
     pub owner: u8,
     pub live: bool,
+    /// The number of its last committed batch, 0 for none.
     pub batch: u64,
+    /// The replies of that batch.
     pub replies: ReplyList,
+    /// Its last committed stripe.
     pub last: Option<u64>,
+    /// The least stripe in which it may commit.
     pub mark: u64,
 }

@@ -129,6 +129,7 @@ impl Model for LogTable {
 }
 
 impl LogTable {
+    /// No logs.
     pub fn new(alloc: Global) -> LogTable
         ensures { result.logs ≡ [] }
     {
@@ -142,19 +143,10 @@ impl LogTable {
         ensures bound { result ≤ length self.now.logs }
         ensures place { IsPlace self.now.logs log.0 result }
     {
-        let mut low = 0;
-        let mut high = self.logs.len();
-        while low < high {
-            let middle = low + (high - low) / 2;
-            if self.logs[middle].number < log.0 {
-                low = middle + 1;
-            } else {
-                high = middle;
-            }
-        }
-        low
+        self.logs.partition_point(|found| found.number < log.0)
     }
 
+    /// A log of the table. None where it isn't there.
     pub fn find(&self, log: LogId) -> Option<&Log>
         ensures { option_map state_of (option_copied result) ≡ look log.0 self.now.logs }
     {
@@ -169,6 +161,7 @@ impl LogTable {
         Some(found)
     }
 
+    /// Makes room for one more log.
     pub fn reserve(&mut self) -> Mem<()>
         ensures same { self.new.logs ≡ self.old.logs }
         ensures ok { OnOk result (1 ≤ self.new.room) }
@@ -177,7 +170,7 @@ impl LogTable {
         Ok(())
     }
 
-    /// The live log of an owner ends.
+    /// The live log of an owner ends, if it has one.
     pub fn end_of(&mut self, owner: u8)
         ensures logs { self.new.logs ≡ changed (ended owner) self.old.logs }
         ensures numbers { keys_of self.new.logs ≡ keys_of self.old.logs }
@@ -205,7 +198,8 @@ impl LogTable {
             .retain(|log| log.live || held.holds_any(log.number));
     }
 
-    /// Adds a live log behind all others, without memory.
+    /// Adds a live log behind all others, without memory. There has to be room for it, and its number has to be above
+    /// theirs.
     pub fn add(&mut self, alloc: Global, log: LogId, owner: u8)
         requires room { 1 ≤ self.old.room }
         requires last { AllByRecursion (λ n. n < log.0) (keys_of self.old.logs) }
@@ -223,7 +217,8 @@ impl LogTable {
         let _ = self.logs.push(new);
     }
 
-    /// A log's last batch is this.
+    /// A log's last batch is this, with its replies, and its last stripe the greatest of its own and the pieces'; without
+    /// memory. Nothing changes where the log isn't there.
     pub fn commit(&mut self, log: LogId, number: u64, pieces: &[Piece], replies: ReplyList)
         requires { AllByRecursion StripeFits pieces.now }
         ensures logs { self.new.logs ≡ with_batch log number pieces.now replies self.old.logs (look log.0 self.old.logs) }

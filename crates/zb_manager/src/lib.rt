@@ -5,10 +5,7 @@
 mod cleaning;
 mod drafts;
 mod fitting;
-mod held;
 mod laws;
-mod log;
-mod logs;
 mod manager;
 mod planning;
 mod prepared;
@@ -18,6 +15,6 @@ mod work;
 mod working;
 
 pub use laws::a_prepared_batch_is_folded;
-pub use log::ReplyList;
 pub use manager::{Blocked, Manager};
 pub use prepared::Prepared;
+pub use zb_log_tables::ReplyList;

@@ -17,9 +17,6 @@ ghost use Rattle.zb_manager.specs.Seen.{IsPrepared, IsReady, held_by, last_in, p
 use crate::cleaning::plan_moves;
 use crate::drafts::{StaleOp, plan_files};
 use crate::fitting::{all_point_within, are_pieces, is_count};
-use crate::held::HeldTable;
-use crate::log::ReplyList;
-use crate::logs::LogTable;
 use crate::planning::{Plan, plan_name};
 use crate::prepared::Prepared;
 use crate::reserving::room_for_work;
@@ -32,6 +29,7 @@ use std::marker::Model;
 use zb_batch::{Batch, Op};
 use zb_conflict::{Decision, decide};
 use zb_delta::{Body, Delta, DeltaList};
+use zb_log_tables::{HeldTable, LogTable};
 use zb_names::Names;
 use zb_pointers::{FileHead, Pointers};
 use zb_types::{

@@ -1,6 +1,6 @@
 ghost use Rattle.std.specs.Prelude.{◌≤◌, ◌<◌};
 
-use crate::bench::{commit, new_manager, path};
+use crate::manager::{commit, new_manager, path};
 use std::alloc::Global;
 use std::collections::BTreeMap;
 use std::ops::Range;

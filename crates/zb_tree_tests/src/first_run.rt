@@ -1,4 +1,4 @@
-use crate::bench::{commit, new_manager, path};
+use crate::manager::{commit, new_manager, path};
 use std::alloc::Global;
 use std::test::Fail;
 use zb_batch::{Batch, Op, OpList};

@@ -58,7 +58,8 @@ silent_behind q [] [] r s e = absurd (none-some r e)
 silent_behind q [] (a ∷ rest) r s e = subst (λ (y : ServerId × Request). is_about y.1 q ≡ false) (same_Some a r e) s.0
 silent_behind q (d ∷ done) left r s e = silent_behind q done left r s.1 e
 
-get_behind : (done left : List (ServerId × Request)) → slice_get (done ++ left) (length done) ≡ slice_get left 0
+-- the first of those that are left stands behind those that are done
+pub get_behind : (done left : List (ServerId × Request)) → slice_get (done ++ left) (length done) ≡ slice_get left 0
 get_behind [] left = refl
 get_behind (d ∷ done) left = get_behind done left
 

@@ -11,3 +11,5 @@ pub mod Changing
 pub mod Beginning
 pub mod Recovering
 pub mod Owned
+pub mod Fronts
+pub mod Placed

@@ -5,3 +5,4 @@ pub mod Raising
 pub mod Committing
 pub mod Changing
 pub mod Owning
+pub mod LastFlush

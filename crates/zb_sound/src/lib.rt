@@ -6,6 +6,7 @@
 mod changes;
 mod commits;
 mod flushes;
+mod last_flushes;
 mod owners;
 mod recovery;
 
@@ -14,6 +15,9 @@ pub use commits::{clean_leaves_tree, commit_may_be_cut_off, commit_takes_tree, f
 pub use flushes::{
     changes_leave_parts, flush_at_work, flush_stays, log_goes_on, parts_make_contents,
     requests_beside_keep,
+};
+pub use last_flushes::{
+    flush_finds_its_place, last_flush_of_a_log, last_flush_stays, nothing_is_of_new_logs,
 };
 pub use owners::log_of_an_owner;
 pub use recovery::{first_platters_stand, sound_recovers};

@@ -27,14 +27,15 @@ use Rattle.zb_tables.proofs.Retiring.{Less, both_points, gone}
 use Rattle.zb_tables.proofs.Taken.{taken_then}
 use Rattle.zb_sound.proofs.Delivering.{stripe_same}
 
-same_server : (a b : ServerId) → a.0 ≡ b.0 → a ≡ b
+pub same_server : (a b : ServerId) → a.0 ≡ b.0 → a ≡ b
 same_server a b e = ap (λ (n : ℕ). record { 0 = n }) e
 
 -- where all others are fit, a server may be missing
 pub others_may : (z : Sizes) (st : Servers) (members : Members) (a : ServerId) → IsServer z.servers a → OthersFit z members st a → MayMiss z.servers members st.blank (Some a)
 others_may z st members a is others = record { covers = λ t server unfit. ap Some (sym (others t server unfit)); among = is }
 
-names_only : (state : State) (a : ServerId) → (state ≡ Out a) ⊎ (state ≡ Mending a) → (t : ServerId) → names_server state t ≡ eqb a.0 t.0
+-- of the state that names a server, the test of names
+pub names_only : (state : State) (a : ServerId) → (state ≡ Out a) ⊎ (state ≡ Mending a) → (t : ServerId) → names_server state t ≡ eqb a.0 t.0
 names_only state a (inl e) t = ap (λ (y : State). names_server y t) e
 names_only state a (inr e) t = ap (λ (y : State). names_server y t) e
 

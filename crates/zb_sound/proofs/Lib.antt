@@ -13,3 +13,5 @@ pub mod Recovering
 pub mod Owned
 pub mod Fronts
 pub mod Placed
+pub mod Currents
+pub mod Fitness

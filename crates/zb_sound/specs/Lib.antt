@@ -6,3 +6,5 @@ pub mod Committing
 pub mod Changing
 pub mod Owning
 pub mod LastFlush
+pub mod LogsCurrent
+pub mod NodesFit

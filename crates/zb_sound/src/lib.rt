@@ -7,6 +7,8 @@ mod changes;
 mod commits;
 mod flushes;
 mod last_flushes;
+mod logs_current;
+mod nodes_fit;
 mod owners;
 mod recovery;
 
@@ -19,5 +21,7 @@ pub use flushes::{
 pub use last_flushes::{
     flush_finds_its_place, last_flush_of_a_log, last_flush_stays, nothing_is_of_new_logs,
 };
+pub use logs_current::{current_logs_are_taken, logs_stay_current};
+pub use nodes_fit::{fit_nodes_leave_others_fit, nodes_stay_fit};
 pub use owners::log_of_an_owner;
 pub use recovery::{first_platters_stand, sound_recovers};

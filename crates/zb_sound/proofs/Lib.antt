@@ -15,3 +15,5 @@ pub mod Fronts
 pub mod Placed
 pub mod Currents
 pub mod Fitness
+pub mod Looked
+pub mod Righted

@@ -8,3 +8,4 @@ pub mod Owning
 pub mod LastFlush
 pub mod LogsCurrent
 pub mod NodesFit
+pub mod LookupsCurrent

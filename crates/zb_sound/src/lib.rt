@@ -8,6 +8,7 @@ mod commits;
 mod flushes;
 mod last_flushes;
 mod logs_current;
+mod lookups_current;
 mod nodes_fit;
 mod owners;
 mod recovery;
@@ -22,6 +23,7 @@ pub use last_flushes::{
     flush_finds_its_place, last_flush_of_a_log, last_flush_stays, nothing_is_of_new_logs,
 };
 pub use logs_current::{current_logs_are_taken, logs_stay_current};
+pub use lookups_current::{fetched_blocks_stay, lookups_stay_current, old_stripes_stay_right};
 pub use nodes_fit::{fit_nodes_leave_others_fit, nodes_stay_fit};
 pub use owners::log_of_an_owner;
 pub use recovery::{first_platters_stand, sound_recovers};

@@ -1,15 +1,13 @@
 -- A log stays current, whatever entry comes.
-use Rattle.std.proofs.Common.{◌≡◌, ◌≢◌, ◌⊎◌, ℕ, ◌+◌, ◌<◌, ◌≤◌, max, Bool, true, eqb, ltb, List, [], ◌∷◌, Option, Some, None, refl, sym, ap, ◌∙◌, subst, inl, inr, arith}
+use Rattle.std.proofs.Common.{◌≡◌, ◌≢◌, ◌⊎◌, ℕ, ◌+◌, ◌<◌, ◌≤◌, Bool, true, List, [], ◌∷◌, Option, Some, None, refl, sym, ap, ◌∙◌, subst, inl, inr, arith}
 use Rattle.std.specs.Prelude.{if◌then◌else◌, IsSomeAnd}
 use Rattle.std.specs.List.{AllByRecursion}
 use Rattle.std.proofs.lemmas.Bool.{eq-eqb, le-ltb}
 use Rattle.zb_types.specs.declared.ids.LogId.{LogId}
 use Rattle.zb_types.specs.declared.ids.Piece.{Piece}
-use Rattle.zb_types.specs.declared.ids.ServerId.{ServerId}
 use Rattle.zb_types.specs.declared.nodes.Members.{Members}
 use Rattle.zb_types.specs.declared.nodes.State.{State}
 use Rattle.zb_types.specs.declared.nodes.State.TheVariants.{Whole, Out, Mending}
-use Rattle.zb_types.specs.declared.tables.CommitFault.{CommitFault}
 use Rattle.zb_types.specs.declared.tables.CommitFault.TheVariants.{Regen}
 use Rattle.zb_types.specs.Keyed.{look, changed}
 use Rattle.zb_types.proofs.KeyedLists.{look-put_same, look-put_other}

@@ -31,11 +31,12 @@ use Rattle.zb_tables.specs.Replay.{Platter}
 use Rattle.zb_tables.specs.Taking.{Sizes}
 use Rattle.zb_recovery.specs.Missing.{Servers}
 use Rattle.zb_recovery.specs.Agreeing.{StripeAgrees, ViewAgrees}
-use Rattle.zb_sound.specs.Standing.{StandFor, HoldSome, seen}
+use Rattle.zb_sound.specs.Standing.{StandFor, seen}
 use Rattle.zb_sound.specs.Delivering.{after_asked, allowed, any_one, FlushBegins, FlushWorks, Missing, Misses, PartFits, PartsStand, WorksIn}
 use Rattle.zb_sound.specs.Staying.{LeavesParts}
 use Rattle.zb_sound.proofs.Listed.{Among, among_at, at_part, find_part}
 use Rattle.zb_sound.proofs.Missing.{some_may}
+use Rattle.zb_sound.proofs.Saying.{HoldSome, said_some}
 
 -- a stripe is held where each index that is looked at stands as before
 pub stripe_same : (n f : ℕ) (maps new : Maps) (x : Option ServerId) (contents : Contents) (log : LogId) (stripe end : ℕ)
@@ -169,7 +170,7 @@ module _ (z : Sizes) (contents : Contents) (out : Option ServerId) (class : Clas
     pub next_stands : StandFor z contents p (after_asked st r) tables tree
     next_stands = record {
       says = s.says;
-      agree = record { one_unfit = s.agree.one_unfit; agree = λ x may. next_agrees st tables.held (allowed tables.members) left r is w x may s.says.hold_some (s.agree.agree x may) };
+      agree = record { one_unfit = s.agree.one_unfit; agree = λ x may. next_agrees st tables.held (allowed tables.members) left r is w x may (said_some z contents p tables tree s.says) (s.agree.agree x may) };
       none_empty = kept_by st.maps r next_stores s.none_empty;
     }
 

@@ -1,4 +1,5 @@
 pub mod Missing
+pub mod Saying
 pub mod Listed
 pub mod Delivering
 pub mod Staying

@@ -1,14 +1,12 @@
 -- Lookups stay current.
-use Rattle.std.proofs.Common.{◌≡◌, ◌⊎◌, ℕ, ◌+◌, ◌≤◌, ◌<◌, Bool, false, eqb, List, [], ◌∷◌, take, drop, Option, Some, None, refl, sym, ap, ◌∙◌, subst, inl, inr, arith}
-use Rattle.std.specs.Prelude.{Result, Ok, Err, IfOk, IsSomeAnd, if◌then◌else◌, nat_le, nat_lt, ◌&&◌}
+use Rattle.std.proofs.Common.{◌≡◌, ◌⊎◌, ℕ, ◌+◌, ◌≤◌, ◌<◌, false, eqb, List, [], ◌∷◌, take, drop, Option, Some, None, refl, sym, ap, ◌∙◌, subst, inl, inr, arith}
+use Rattle.std.specs.Prelude.{Result, Ok, Err, IfOk, IsSomeAnd, nat_lt}
 use Rattle.std.specs.List.{AllByRecursion}
 use Rattle.std.proofs.lemmas.Bool.{cases_eq, cond_both}
 use Rattle.std.proofs.lemmas.Bool.Decides.{nat_tests}
 use Rattle.std.proofs.lemmas.Option.{none-some, same_Some}
 use Rattle.zb_types.specs.declared.ids.Fid.{Fid}
-use Rattle.zb_types.specs.declared.ids.LogId.{LogId}
 use Rattle.zb_types.specs.declared.ids.Ptr.{Ptr}
-use Rattle.zb_types.specs.declared.ids.Piece.{Piece}
 use Rattle.zb_types.specs.declared.calls.Call.{Call}
 use Rattle.zb_types.specs.declared.calls.Call.TheVariants.{Create, Mkdir, Remove, Rename, Write as WriteCall, Truncate, Sync as SyncCall, Read, List as ListOf, Stat, Find}
 use Rattle.zb_types.specs.declared.calls.Refusal.{Refusal}
@@ -24,9 +22,8 @@ use Rattle.zb_tables.specs.Tables.{Contents, FileState, SameIn, Tables, bytes_at
 use Rattle.zb_tables.specs.Fold.{Shelf, Stale, after_cut, after_write, all_moved, and_then, committed, done_op, done_ops, named, resized, shelf_of}
 use Rattle.zb_tables.specs.Finding.{among, found, found_in}
 use Rattle.zb_tables.specs.Leaving.{HasCopies, IsOfUpdate}
-use Rattle.zb_tables.specs.Looking.{IsCurrent, SameBlock}
+use Rattle.zb_tables.specs.Looking.{SameBlock}
 use Rattle.zb_tables.specs.Pointing.{AllCopies}
-use Rattle.zb_tables.specs.Spelled.{new_blocks}
 use Rattle.zb_tables.specs.Taking.{any_wears}
 use Rattle.zb_tables.proofs.Each.{each_look}
 use Rattle.zb_tables.proofs.Growing.{same_bytes}

@@ -1,5 +1,5 @@
 -- Where the next flush of a log begins, and how its last flush goes on.
-use Rattle.std.proofs.Common.{◌≡◌, ◌≢◌, ◌⊎◌, ℕ, suc, ◌+◌, ◌<◌, ◌≤◌, max, Bool, eqb, List, [], ◌∷◌, ◌++◌, length, length-append, get_or, take, Option, Some, None, refl, sym, ap, ◌∙◌, subst, inl, inr, arith, append_assoc}
+use Rattle.std.proofs.Common.{◌≡◌, ◌≢◌, ℕ, suc, ◌+◌, ◌<◌, ◌≤◌, max, Bool, eqb, List, [], ◌∷◌, ◌++◌, length, length-append, get_or, Option, Some, None, refl, sym, ap, ◌∙◌, subst, inl, inr, arith, append_assoc}
 use Rattle.std.specs.Prelude.{All, if◌then◌else◌, slice_get}
 use Rattle.std.proofs.lemmas.Bool.{cases_eq, cond_both, eq-eqb, ne_eqb}
 use Rattle.std.proofs.lemmas.Option.{none-some, same_Some}
@@ -25,11 +25,11 @@ use Rattle.zb_tables.specs.Replay.{Platter}
 use Rattle.zb_tables.specs.Taking.{Sizes, stripe_room}
 use Rattle.zb_recovery.specs.Missing.{Servers}
 use Rattle.zb_sound.specs.Standing.{StandFor, seen}
-use Rattle.zb_sound.specs.Delivering.{after_asked, CoversHeld, FlushBegins, FlushWorks, ForEach, IsNext, MayGoOn, Missing, PartFits, PartStands, with_parts}
+use Rattle.zb_sound.specs.Delivering.{after_asked, FlushBegins, ForEach, IsNext, MayGoOn, Missing, PartFits, PartStands, with_parts}
 use Rattle.zb_sound.specs.Committing.{AreInFlush}
 use Rattle.zb_sound.specs.Staying.{LeavesParts, SameStripes}
-use Rattle.zb_sound.specs.LastFlush.{FlushStands, IsLastOf, LastFlush, NothingFrom, Phase, anew, behind, flushing, parts_in, PhaseStands, stripe_of}
-use Rattle.zb_sound.proofs.Listed.{Among, among_at, at_part}
+use Rattle.zb_sound.specs.LastFlush.{IsLastOf, LastFlush, NothingFrom, Phase, anew, behind, flushing, parts_in, PhaseStands, stripe_of}
+use Rattle.zb_sound.proofs.Listed.{Among, at_part}
 use Rattle.zb_sound.proofs.Delivering.{flush_begins, flush_ends, next_works, get_behind}
 use Rattle.zb_sound.proofs.Flushing.{commit_covers, fits_covers, next_begins, next_fits}
 use Rattle.zb_sound.proofs.Staying.{go_on_stays, works_stay}

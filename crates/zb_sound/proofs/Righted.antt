@@ -1,5 +1,5 @@
 -- What remains of a stripe stays right.
-use Rattle.std.proofs.Common.{◌≡◌, ◌⊎◌, ℕ, ◌-◌, ◌<◌, Bool, false, List, take, Option, Some, None, sym, ◌∙◌, subst, inl, inr}
+use Rattle.std.proofs.Common.{◌≡◌, ◌⊎◌, ℕ, ◌-◌, Bool, false, List, take, Option, Some, None, sym, ◌∙◌, subst, inl, inr}
 use Rattle.zb_types.specs.declared.ids.LogId.{LogId}
 use Rattle.zb_types.specs.declared.ids.ServerId.{ServerId}
 use Rattle.zb_types.specs.declared.tables.HeldUse.{HeldUse}
@@ -12,7 +12,6 @@ use Rattle.zb_tables.specs.Tables.{Contents, Tables, held_at}
 use Rattle.zb_tables.specs.Replay.{Platter}
 use Rattle.zb_tables.specs.Taking.{Sizes}
 use Rattle.zb_recovery.specs.Missing.{Servers}
-use Rattle.zb_recovery.specs.Agreeing.{StripeAgrees}
 use Rattle.zb_sound.specs.Standing.{StandFor, seen}
 use Rattle.zb_sound.specs.Delivering.{allowed, any_one, Missing, Misses}
 use Rattle.zb_sound.specs.LookupsCurrent.{RemainsIn, StripeStaysRight}

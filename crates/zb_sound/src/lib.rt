@@ -26,4 +26,4 @@ pub use logs_current::{current_logs_are_taken, logs_stay_current};
 pub use lookups_current::{fetched_blocks_stay, lookups_stay_current, old_stripes_stay_right};
 pub use nodes_fit::{fit_nodes_leave_others_fit, nodes_stay_fit};
 pub use owners::log_of_an_owner;
-pub use recovery::{first_platters_stand, sound_recovers};
+pub use recovery::{first_platters_stand, sound_recovers, what_is_said_is_in_form};

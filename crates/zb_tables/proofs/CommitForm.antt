@@ -45,7 +45,7 @@ all_put_held P h (g ∷ gs) this all =
     cond_both (is_of h.log h.stripe g) (h ∷ gs) (if is_before h g then h ∷ g ∷ gs else g ∷ put_held h gs) (AllByRecursion P) (λ _. (this, all.1))
     (λ _. cond_both (is_before h g) (h ∷ g ∷ gs) (g ∷ put_held h gs) (AllByRecursion P) (λ _. (this, all)) (λ _. (all.0, all_put_held P h gs this all.1)))
 
-all_held : (P : HeldUse → Type 0) (l : LogId) (s : ℕ) (gs : Held) → AllByRecursion P gs → (h : HeldUse) → held_at l s gs ≡ Some h → P h
+pub all_held : (P : HeldUse → Type 0) (l : LogId) (s : ℕ) (gs : Held) → AllByRecursion P gs → (h : HeldUse) → held_at l s gs ≡ Some h → P h
 all_held P l s [] all h at = absurd (none-some h at)
 all_held P l s (g ∷ gs) all h at = elim (cases_Bool (is_of l s g)) as (λ _. P h) [
   | inl t ↦ subst P (same_Some g h (sym (ap (λ (b : Bool). if b then Some g else held_at l s gs) t) ∙ at)) all.0

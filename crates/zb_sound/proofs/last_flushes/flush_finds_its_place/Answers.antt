@@ -1,4 +1,4 @@
-use Rattle.std.proofs.Common.{[], ◌∷◌, refl}
+use Rattle.std.proofs.Common.{[], refl}
 use Rattle.zb_sound.proofs.Placed.{anew_begins, behind_begins}
 use Rattle.zb_sound.proofs.last_flushes.flush_finds_its_place.Goals as goal
 

@@ -1,4 +1,4 @@
-use Rattle.std.proofs.Common.{[], ◌++◌, length, ap, arith}
+use Rattle.std.proofs.Common.{arith}
 use Rattle.zb_sound.proofs.Placed.{last_begins, last_goes_on, last_ends, last_commits, none_last}
 use Rattle.zb_sound.proofs.last_flushes.last_flush_of_a_log.Goals as goal
 

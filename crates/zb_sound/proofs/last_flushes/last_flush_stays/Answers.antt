@@ -1,5 +1,4 @@
-use Rattle.std.proofs.Common.{sym, inl, inr}
-use Rattle.std.proofs.lemmas.Bool.{cases_eq}
+use Rattle.std.proofs.Common.{sym, inl}
 use Rattle.zb_sound.specs.LastFlush.{IsBefore}
 use Rattle.zb_sound.proofs.Fronts.{nothing_still, plan_of, server_still}
 use Rattle.zb_sound.proofs.Placed.{last_stays}

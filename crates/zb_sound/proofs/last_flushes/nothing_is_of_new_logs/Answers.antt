@@ -1,4 +1,4 @@
-use Rattle.std.proofs.Common.{ℕ, ◌<◌, arith}
+use Rattle.std.proofs.Common.{◌<◌, arith}
 use Rattle.zb_types.specs.declared.ids.FragId.{FragId}
 use Rattle.zb_sound.proofs.Fronts.{new_still, plan_of, new_server_still}
 use Rattle.zb_sound.proofs.last_flushes.nothing_is_of_new_logs.Goals as goal

@@ -49,7 +49,7 @@ stripe_same n f maps new x contents log stripe end same s = record {
   first = s.first;
 }
 
-silent_both : (q : FragId) (xs ys : List (ServerId × Request)) → Silent q xs → Silent q ys → Silent q (xs ++ ys)
+pub silent_both : (q : FragId) (xs ys : List (ServerId × Request)) → Silent q xs → Silent q ys → Silent q (xs ++ ys)
 silent_both q [] ys a b = b
 silent_both q (x ∷ xs) ys a b = (a.0, silent_both q xs ys a.1 b)
 
@@ -65,7 +65,7 @@ get_behind [] left = refl
 get_behind (d ∷ done) left = get_behind done left
 
 -- what a request that isn't about a name leaves there
-silent_leaves : (n : ℕ) (maps : Maps) (r : ServerId × Request) (l : LogId) (t k : ℕ) → is_about r.1 (frag_id l t k) ≡ false
+pub silent_leaves : (n : ℕ) (maps : Maps) (r : ServerId × Request) (l : LogId) (t k : ℕ) → is_about r.1 (frag_id l t k) ≡ false
     → standing n (carried maps r) l t k ≡ standing n maps l t k
 silent_leaves n maps r l t k e =
     ap (λ (y : Bool). if y then stands_after r.1 (standing n maps l t k) else standing n maps l t k)

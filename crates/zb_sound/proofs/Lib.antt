@@ -18,3 +18,4 @@ pub mod Currents
 pub mod Fitness
 pub mod Looked
 pub mod Righted
+pub mod Sites

@@ -1,5 +1,5 @@
 -- What a log has delivered, and what stands of its last flush.
-use Rattle.std.specs.Prelude.{◌≡◌, ◌≢◌, ◌⊎◌, ℕ, ◌+◌, ◌<◌, ◌≤◌, List, [], ◌∷◌, ◌++◌, Option, None}
+use Rattle.std.specs.Prelude.{◌≡◌, ◌≢◌, ◌⊎◌, ℕ, ◌+◌, ◌<◌, ◌≤◌, List, [], ◌∷◌, ◌++◌, length, Option, Some, None}
 use Rattle.zb_types.specs.declared.ids.LogId.{LogId}
 use Rattle.zb_types.specs.declared.ids.ServerId.{ServerId}
 use Rattle.zb_types.specs.declared.ids.FragId.{FragId}
@@ -7,6 +7,7 @@ use Rattle.zb_types.specs.declared.nodes.Class.{Class}
 use Rattle.zb_types.specs.declared.requests.Request.{Request}
 use Rattle.zb_types.specs.declared.requests.Request.TheVariants as ask
 use Rattle.zb_types.specs.declared.tables.HeldUse.{HeldUse}
+use Rattle.zb_holding.specs.Fragments.{Fragment, share_fragment, parity_fragment}
 use Rattle.zb_holding.specs.Holding.{Maps}
 use Rattle.zb_stripe.specs.declared.flush.Part.{Part}
 use Rattle.zb_stripe.specs.declared.flush.Flush.{Flush}
@@ -82,3 +83,16 @@ pub record LastFlush (z : Sizes) (contents : Contents) (st : Servers) (held : Li
   pub nothing : NothingFrom st.maps log front
   pub reached : (part : Part) → IsLastOf part (parts_in phase) → front ≤ part.stripe + 1
   pub stands : PhaseStands z contents st held who log phase
+
+-- a share of so many bytes stands
+abbrev pub EndsAt : Option Fragment → ℕ → Type 0
+EndsAt None place = ⊥
+EndsAt (Some (share_fragment bytes)) place = length bytes ≡ place
+EndsAt (Some (parity_fragment lengths bytes)) place = ⊥
+
+-- what stands under the names of a server is such that a store finds its name free, and an append that its bytes go right
+-- behind a share
+abbrev pub FindsItsPlace : Request → (FragId → Option Fragment) → Type 0
+FindsItsPlace (ask.Store id bytes class) stands = stands id ≡ None
+FindsItsPlace (ask.Append id place bytes) stands = EndsAt (stands id) place
+FindsItsPlace request stands = Unit {0}

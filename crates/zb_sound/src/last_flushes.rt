@@ -1,4 +1,4 @@
-ghost use Rattle.std.specs.Prelude.{◌≡◌, ◌≢◌, ℕ, ◌+◌, ◌-◌, ◌<◌, ◌≤◌, max, All, List, [], ◌∷◌, ◌++◌, slice_get, Option, None};
+ghost use Rattle.std.specs.Prelude.{◌≡◌, ◌≢◌, ℕ, ◌+◌, ◌-◌, ◌<◌, ◌≤◌, max, All, List, [], ◌∷◌, ◌++◌, slice_get, Option, None, Some, false};
 ghost use Rattle.zb_types.specs.declared.ids.LogId.{LogId};
 ghost use Rattle.zb_types.specs.declared.ids.ServerId.{ServerId};
 ghost use Rattle.zb_types.specs.declared.ids.FragId.{FragId};
@@ -8,7 +8,7 @@ ghost use Rattle.zb_types.specs.declared.requests.Request.{Request};
 ghost use Rattle.zb_types.specs.declared.requests.Response.TheVariants as told;
 ghost use Rattle.zb_types.specs.declared.tables.HeldUse.{HeldUse};
 ghost use Rattle.zb_types.specs.Tree.{Tree};
-ghost use Rattle.zb_holding.specs.Holding.{Maps};
+ghost use Rattle.zb_holding.specs.Holding.{Maps, is_away};
 ghost use Rattle.zb_holding.specs.Carrying.{carried};
 ghost use Rattle.zb_stripe.specs.declared.flush.Part.{Part};
 ghost use Rattle.zb_stripe.specs.declared.flush.Flush.{Flush};
@@ -22,11 +22,11 @@ ghost use Rattle.zb_tables.specs.Replay.{Platter};
 ghost use Rattle.zb_tables.specs.Taking.{Sizes, stripe_room};
 ghost use Rattle.zb_recovery.specs.Missing.{Servers};
 ghost use Rattle.zb_sound.specs.Standing.{StandFor};
-ghost use Rattle.zb_sound.specs.Delivering.{after_asked, FlushBegins, ForEach, Missing, with_parts};
+ghost use Rattle.zb_sound.specs.Delivering.{after_asked, FlushBegins, FlushWorks, ForEach, Misses, Missing, with_parts};
 ghost use Rattle.zb_sound.specs.Committing.{AreInFlush};
 ghost use Rattle.zb_sound.specs.Changing.{OthersSame};
 ghost use Rattle.zb_sound.specs.Staying.{LeavesParts, SameStripes};
-ghost use Rattle.zb_sound.specs.LastFlush.{IsBefore, IsLastOf, LastFlush, NothingFrom, NothingOfNew, OfName, Phase, anew, behind, flushing, parts_in, stripe_of};
+ghost use Rattle.zb_sound.specs.LastFlush.{FindsItsPlace, IsBefore, IsLastOf, LastFlush, NothingFrom, NothingOfNew, OfName, Phase, anew, behind, flushing, parts_in, stripe_of};
 
 /// A flush that a log has made finds its place: in the log's stripe its part begins behind what the last flush left
 /// there, and nothing stands of the later stripes.
@@ -45,6 +45,15 @@ pub fn flush_finds_its_place()
         → All (GoesNext (stripe_room z) at []) flush.parts → StripesRise flush.parts
         → ForEach z.servers st who (λ x. IsSpared out x)
         → FlushBegins z contents st tables.held who out flush }
+{}
+
+/// Each request of a flush finds its place where its server is looked at: a store that there is no such fragment yet, and an
+/// append that the share ends where its bytes go, so that neither is refused for that.
+pub fn requests_find_their_places()
+    ensures { (z : Sizes) (contents : Contents) (st : Servers) (held : List HeldUse) (who : Missing) (out : Option ServerId) (class : Class) (flush : Flush)
+        (left : List (ServerId × Request)) (asked : ServerId × Request) (x : Option ServerId)
+        → FlushWorks z contents st held who out class flush left → slice_get left 0 ≡ Some asked
+        → Misses z.servers st who x → is_away x asked.0 ≡ false → FindsItsPlace asked.1 (st.maps asked.0) }
 {}
 
 /// The last flush of a log: of a new log there is none; one that may begin is under way; each of its requests, carried

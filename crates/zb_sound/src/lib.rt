@@ -21,6 +21,7 @@ pub use flushes::{
 };
 pub use last_flushes::{
     flush_finds_its_place, last_flush_of_a_log, last_flush_stays, nothing_is_of_new_logs,
+    requests_find_their_places,
 };
 pub use logs_current::{current_logs_are_taken, logs_stay_current};
 pub use lookups_current::{fetched_blocks_stay, lookups_stay_current, old_stripes_stay_right};

@@ -1,5 +1,5 @@
 -- Where the next flush of a log begins, and how its last flush goes on.
-use Rattle.std.proofs.Common.{◌≡◌, ◌≢◌, ℕ, suc, ◌+◌, ◌<◌, ◌≤◌, max, Bool, eqb, List, [], ◌∷◌, ◌++◌, length, length-append, get_or, Option, Some, None, refl, sym, ap, ◌∙◌, subst, inl, inr, arith, append_assoc}
+use Rattle.std.proofs.Common.{◌≡◌, ◌≢◌, ℕ, suc, ◌+◌, ◌<◌, ◌≤◌, max, Bool, eqb, List, [], ◌∷◌, ◌++◌, length, length-append, get_or, take, Option, Some, None, refl, sym, ap, ◌∙◌, subst, inl, inr, arith, append_assoc}
 use Rattle.std.specs.Prelude.{All, if◌then◌else◌, slice_get}
 use Rattle.std.proofs.lemmas.Bool.{cases_eq, cond_both, eq-eqb, ne_eqb}
 use Rattle.std.proofs.lemmas.Option.{none-some, same_Some}
@@ -19,13 +19,13 @@ use Rattle.zb_stripe.specs.Feeding.{left_after}
 use Rattle.zb_stripe_laws.specs.PartAtWork.{IsUnwritten, IsSpared, MayBegin}
 use Rattle.zb_stripe_laws.proofs.Plans.{rise_differ}
 use Rattle.zb_log.specs.Sealing.{GoesNext, given_of}
-use Rattle.zb_tables.specs.Tables.{Contents, Tables, held_at}
+use Rattle.zb_tables.specs.Tables.{Contents, SameIn, Tables, end_of, held_at}
 use Rattle.zb_tables.specs.Fold.{held_with_all}
 use Rattle.zb_tables.specs.Replay.{Platter}
 use Rattle.zb_tables.specs.Taking.{Sizes, stripe_room}
 use Rattle.zb_recovery.specs.Missing.{Servers}
 use Rattle.zb_sound.specs.Standing.{StandFor, seen}
-use Rattle.zb_sound.specs.Delivering.{after_asked, FlushBegins, ForEach, IsNext, MayGoOn, Missing, PartFits, PartStands, with_parts}
+use Rattle.zb_sound.specs.Delivering.{BeginsAsHeld, after_asked, FlushBegins, ForEach, IsNext, MayGoOn, Missing, PartFits, PartStands, with_parts}
 use Rattle.zb_sound.specs.Committing.{AreInFlush}
 use Rattle.zb_sound.specs.Staying.{LeavesParts, SameStripes}
 use Rattle.zb_sound.specs.LastFlush.{IsLastOf, LastFlush, NothingFrom, Phase, anew, behind, flushing, parts_in, PhaseStands, stripe_of}
@@ -219,3 +219,25 @@ module _ (z : Sizes) (contents new_contents : Contents) (st new : Servers) (held
   pub last_stays : (front : ℕ) (phase : Phase) → LeavesParts z st new who after log (parts_in phase) → SameStripes contents new_contents held later log (parts_in phase)
       → NothingFrom new.maps log front → LastFlush z contents st held who log front phase → LastFlush z new_contents new later after log front phase
   last_stays front phase leaves same nothing w = record { nothing = nothing; reached = w.reached; stands = phase_stays phase leaves same w.stands }
+
+-- contents that agree on what is committed
+module _ (z : Sizes) (contents new : Contents) (st : Servers) (held : List HeldUse) (who : Missing) (log : LogId) (same : SameIn held contents new) where
+  begins_grown : (l : LogId) (part : Part) → BeginsAsHeld contents held l part → BeginsAsHeld new held l part
+  begins_grown l part begins h e = begins h e ∙ subst (λ (o : Option HeldUse). take (end_of o) (contents l part.stripe) ≡ take (end_of o) (new l part.stripe)) e (same l part.stripe)
+
+  phase_grows : (phase : Phase) → PhaseStands z contents st held who log phase → PhaseStands z new st held who log phase
+  phase_grows anew s = tt
+  phase_grows (flushing out class flush left) s = record {
+    log_is = s.log_is;
+    rise = s.rise;
+    done = s.done;
+    all = s.all;
+    works = record {
+      fits = λ i d l. let fit = s.works.fits i d l in record { writable = fit.writable; before = fit.before; same = begins_grown flush.log (get_or flush.parts i d) fit.same };
+      each = s.works.each;
+    };
+  }
+  phase_grows (behind part) s = record { stands = s.stands; covers = record { within = s.covers.within; same = begins_grown log part s.covers.same } }
+
+  pub last_grows : (front : ℕ) (phase : Phase) → LastFlush z contents st held who log front phase → LastFlush z new st held who log front phase
+  last_grows front phase w = record { nothing = w.nothing; reached = w.reached; stands = phase_grows phase w.stands }

@@ -16,7 +16,7 @@ ghost use Rattle.zb_stripe.specs.Writing.{StripesRise, plan_requests};
 ghost use Rattle.zb_stripe.specs.Feeding.{left_after};
 ghost use Rattle.zb_stripe_laws.specs.PartAtWork.{IsSpared};
 ghost use Rattle.zb_log.specs.Sealing.{GoesNext};
-ghost use Rattle.zb_tables.specs.Tables.{Contents, Tables};
+ghost use Rattle.zb_tables.specs.Tables.{Contents, SameIn, Tables};
 ghost use Rattle.zb_tables.specs.Fold.{held_with_all};
 ghost use Rattle.zb_tables.specs.Replay.{Platter};
 ghost use Rattle.zb_tables.specs.Taking.{Sizes, stripe_room};
@@ -83,14 +83,16 @@ pub fn last_flush_of_a_log()
         → LastFlush z contents st held who log front phase → front ≤ at → LastFlush z new st later after log at anew }
 {}
 
-/// What leaves the last flush of a log: whatever leaves its parts and puts nothing into the stripes from the front on. Such
-/// are the requests of a flush of another log, and those about a lower stripe; and whatever becomes of one server, where it
+/// What leaves the last flush of a log: whatever leaves its parts and puts nothing into the stripes from the front on, and
+/// contents that agree on what is committed. Such are the requests of a flush of another log, and those about a lower stripe; and whatever becomes of one server, where it
 /// has nothing of these stripes.
 pub fn last_flush_stays()
     ensures stays { (z : Sizes) (contents new_contents : Contents) (st new : Servers) (held later : List HeldUse) (who after : Missing) (log : LogId) (front : ℕ) (phase : Phase)
         → LeavesParts z st new who after log (parts_in phase) → SameStripes contents new_contents held later log (parts_in phase)
         → NothingFrom new.maps log front
         → LastFlush z contents st held who log front phase → LastFlush z new_contents new later after log front phase }
+    ensures contents { (z : Sizes) (contents new : Contents) (st : Servers) (held : List HeldUse) (who : Missing) (log : LogId) (front : ℕ) (phase : Phase)
+        → SameIn held contents new → LastFlush z contents st held who log front phase → LastFlush z new st held who log front phase }
     ensures request { (maps : Maps) (asked : ServerId × Request) (log : LogId) (front : ℕ)
         → OfName (IsBefore log front) asked.1 → NothingFrom maps log front → NothingFrom (carried maps asked) log front }
     ensures plan { (n f : ℕ) (out : Option ServerId) (class : Class) (flush : Flush) (i : ℕ) (asked : ServerId × Request) (log : LogId) (front : ℕ)

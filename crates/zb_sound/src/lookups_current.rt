@@ -13,7 +13,8 @@ ghost use Rattle.zb_holding.specs.Holding.{View, standing, away_at};
 ghost use Rattle.zb_delta.specs.declared.delta.Delta.{Delta};
 ghost use Rattle.zb_batch.specs.declared.batch.Op.{Op};
 ghost use Rattle.zb_batch.specs.declared.batch.Op.TheVariants.{Clean};
-ghost use Rattle.zb_tables.specs.Tables.{Contents, FileState, SameIn, Tables, bytes_at, EachFile, IsCommitted, PointsIn, held_at, last_value};
+ghost use Rattle.zb_tables.specs.Tables.{Contents, FileState, SameIn, Tables, bytes_at, EachFile, IsCommitted, PointsIn, held_at};
+ghost use Rattle.zb_tables.specs.Checkpoint.{AreTables};
 ghost use Rattle.zb_tables.specs.Fold.{Shelf, committed, done_ops, shelf_of};
 ghost use Rattle.zb_tables.specs.Finding.{found};
 ghost use Rattle.zb_tables.specs.Leaving.{IsOfUpdate};
@@ -31,16 +32,15 @@ ghost use Rattle.zb_sound.specs.LookupsCurrent.{AreFetched, FileIs, IsCurrentFil
 /// A lookup stays current: as it is answered; where contents grow; at a commit of updates and one of copies; and wherever
 /// names and files are as before, as at each other entry.
 pub fn lookups_stay_current()
-    ensures answered { (contents : Contents) (t : Tables) (fid first count : ℕ)
-        → ((file : FileState) → look fid t.files ≡ Some file → fid < t.names.next)
-        → LookupIsCurrent contents t fid first count (found t fid first count) }
+    ensures answered { (z : Sizes) (contents : Contents) (t : Tables) (fid first count : ℕ)
+        → AreTables z t → LookupIsCurrent contents t fid first count (found t fid first count) }
     ensures contents { (contents new : Contents) (t : Tables) (fid first count : ℕ) (found : Found)
         → SameFound contents new found → SameIn t.held contents new → EachFile (PointsIn t.held) t.files
         → LookupIsCurrent contents t fid first count found → LookupIsCurrent new t fid first count found }
-    ensures updates { (b : ℕ) (contents : Contents) (t : Tables) (log : LogId) (number : ℕ) (pieces : List Piece) (ops : List Op) (after : Shelf)
+    ensures updates { (z : Sizes) (b : ℕ) (contents : Contents) (t : Tables) (log : LogId) (number : ℕ) (pieces : List Piece) (ops : List Op) (after : Shelf)
         (fid first count : ℕ) (found : Found)
         → done_ops b ops (shelf_of t) ≡ Ok after → AllByRecursion IsOfUpdate ops → any_wears b ops (shelf_of t) ≡ false
-        → ((file : FileState) → look fid t.files ≡ Some file → file.version ≤ last_value)
+        → AreTables z t
         → LookupIsCurrent contents t fid first count found → LookupIsCurrent contents (committed t log number pieces after) fid first count found }
     ensures copies { (b : ℕ) (contents : Contents) (t : Tables) (log : LogId) (number : ℕ) (pieces : List Piece) (deltas : List Delta) (after : Shelf)
         (fid first count : ℕ) (found : Found)

@@ -35,7 +35,7 @@ last_below front [] last le all = le
 last_below front (p ∷ ps) last le all = last_below front ps (Some (later p.stripe last)) (one_below front p.stripe last le all.0) all.1
 
 -- and never falls
-last_on : (pieces : List Piece) (last : Option ℕ) → following last ≤ following (last_of last pieces)
+pub last_on : (pieces : List Piece) (last : Option ℕ) → following last ≤ following (last_of last pieces)
 last_on [] last = omega arith
 last_on (p ∷ ps) last = let a = one_on p.stripe last in let b = last_on ps (Some (later p.stripe last)) in omega arith
 

@@ -19,3 +19,4 @@ pub mod Fitness
 pub mod Looked
 pub mod Righted
 pub mod Sites
+pub mod Strays

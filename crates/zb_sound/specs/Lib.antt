@@ -9,3 +9,4 @@ pub mod LastFlush
 pub mod LogsCurrent
 pub mod NodesFit
 pub mod LookupsCurrent
+pub mod OldStripes

@@ -10,6 +10,7 @@ mod last_flushes;
 mod logs_current;
 mod lookups_current;
 mod nodes_fit;
+mod old_stripes;
 mod owners;
 mod recovery;
 
@@ -26,5 +27,6 @@ pub use last_flushes::{
 pub use logs_current::{current_logs_are_taken, logs_stay_current};
 pub use lookups_current::{fetched_blocks_stay, lookups_stay_current, old_stripes_stay_right};
 pub use nodes_fit::{fit_nodes_leave_others_fit, nodes_stay_fit};
+pub use old_stripes::{copies_stay_current, stray_fragments_may_go, stray_stripes_stay};
 pub use owners::log_of_an_owner;
 pub use recovery::{first_platters_stand, sound_recovers, what_is_said_is_in_form};

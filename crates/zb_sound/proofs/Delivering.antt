@@ -137,11 +137,12 @@ module _ (z : Sizes) (contents : Contents) (out : Option ServerId) (class : Clas
             first = sym (fit.same h e);
           }
 
-      pub next_agrees : HoldSome held → ViewAgrees (seen z st x) contents held → ViewAgrees (seen z New x) contents held
-      next_agrees hold_some all l t h e = elim (cases_eq l.0 flush.log.0) as (λ _. StripeAgrees (seen z New x) contents l t h.end) [
-        | inr ne ↦ stripe_same z.servers z.fragment st.maps New.maps x contents l t h.end (λ k a. other_same l t k (inl ne)) (all l t h e)
+      -- one held stripe
+      pub next_one : HoldSome held → (l : LogId) (t : ℕ) (h : HeldUse) → held_at l t held ≡ Some h → StripeAgrees (seen z st x) contents l t h.end → StripeAgrees (seen z New x) contents l t h.end
+      next_one hold_some l t h e old = elim (cases_eq l.0 flush.log.0) as (λ _. StripeAgrees (seen z New x) contents l t h.end) [
+        | inr ne ↦ stripe_same z.servers z.fragment st.maps New.maps x contents l t h.end (λ k a. other_same l t k (inl ne)) old
         | inl same ↦ elim (find_part flush.parts t) as (λ _. StripeAgrees (seen z New x) contents l t h.end) [
-          | inr away ↦ stripe_same z.servers z.fragment st.maps New.maps x contents l t h.end (λ k a. other_same l t k (inr away)) (all l t h e)
+          | inr away ↦ stripe_same z.servers z.fragment st.maps New.maps x contents l t h.end (λ k a. other_same l t k (inr away)) old
           | inl found ↦
               let el : l ≡ flush.log = ap (λ (n : ℕ). record { 0 = n }) same in
               let some = hold_some l t h e in
@@ -150,6 +151,9 @@ module _ (z : Sizes) (contents : Contents) (out : Option ServerId) (class : Clas
               (subst (λ (y : ℕ). StripeAgrees (seen z New x) contents flush.log y h.end) found.stripe_is (own_agrees found.part found.among h here some))
         ]
       ]
+
+      pub next_agrees : HoldSome held → ViewAgrees (seen z st x) contents held → ViewAgrees (seen z New x) contents held
+      next_agrees hold_some all l t h e = next_one hold_some l t h e (all l t h e)
 
     -- what another log has stands as before
     pub others_stand : (log : LogId) (parts : List Part) → log.0 ≢ flush.log.0 → LeavesParts z st New who who log parts

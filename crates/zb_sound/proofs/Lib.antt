@@ -20,3 +20,4 @@ pub mod Looked
 pub mod Righted
 pub mod Sites
 pub mod Strays
+pub mod Covering

@@ -10,3 +10,4 @@ pub mod LogsCurrent
 pub mod NodesFit
 pub mod LookupsCurrent
 pub mod OldStripes
+pub mod Rebuilding

@@ -12,6 +12,7 @@ mod lookups_current;
 mod nodes_fit;
 mod old_stripes;
 mod owners;
+mod rebuilding;
 mod recovery;
 
 pub use changes::{changes_keep, contents_may_grow, finish_keeps};
@@ -29,4 +30,5 @@ pub use lookups_current::{fetched_blocks_stay, lookups_stay_current, old_stripes
 pub use nodes_fit::{fit_nodes_leave_others_fit, nodes_stay_fit};
 pub use old_stripes::{copies_stay_current, stray_fragments_may_go, stray_stripes_stay};
 pub use owners::log_of_an_owner;
+pub use rebuilding::{rebuild_stays_covered, whole_stripes_stand};
 pub use recovery::{first_platters_stand, sound_recovers, what_is_said_is_in_form};

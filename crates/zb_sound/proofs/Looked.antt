@@ -1,6 +1,7 @@
 -- Lookups stay current.
 use Rattle.std.proofs.Common.{◌≡◌, ◌⊎◌, ℕ, ◌+◌, ◌≤◌, ◌<◌, false, eqb, List, [], ◌∷◌, take, drop, Option, Some, None, refl, sym, ap, ◌∙◌, subst, inl, inr, arith}
-use Rattle.std.specs.Prelude.{Result, Ok, Err, IfOk, IsSomeAnd, nat_lt}
+use Rattle.std.proofs.lemmas.Nat.{div-mul-add, mod-mul-add}
+use Rattle.std.specs.Prelude.{◌*◌, ◌%◌, slice_index, Result, Ok, Err, IfOk, IsSomeAnd, nat_lt}
 use Rattle.std.specs.List.{AllByRecursion}
 use Rattle.std.proofs.lemmas.Bool.{cases_eq, cond_both}
 use Rattle.std.proofs.lemmas.Bool.Decides.{nat_tests}
@@ -18,18 +19,19 @@ use Rattle.zb_types.specs.Apply.{max_file}
 use Rattle.zb_delta.specs.declared.delta.Delta.{Delta}
 use Rattle.zb_batch.specs.declared.batch.Op.{Op}
 use Rattle.zb_batch.specs.declared.batch.Op.TheVariants.{Name, Write, Cut, Sync, Clean}
-use Rattle.zb_tables.specs.Tables.{Contents, FileState, SameIn, Tables, bytes_at, EachFile, IsCommitted, PointsIn, last_value}
+use Rattle.zb_tables.specs.Tables.{Contents, FileState, SameIn, Tables, block_byte, bytes_at, file_byte, shown_bytes, EachFile, EndsInFile, IsCommitted, PointsIn, last_value}
 use Rattle.zb_tables.specs.Fold.{Shelf, Stale, after_cut, after_write, all_moved, and_then, committed, done_op, done_ops, named, resized, shelf_of}
 use Rattle.zb_tables.specs.Finding.{among, found, found_in}
 use Rattle.zb_tables.specs.Leaving.{HasCopies, IsOfUpdate}
 use Rattle.zb_tables.specs.Looking.{SameBlock}
 use Rattle.zb_tables.specs.Pointing.{AllCopies}
 use Rattle.zb_tables.specs.Taking.{any_wears}
+use Rattle.zb_tables.proofs.Blocks.{byte_shown, length-first}
 use Rattle.zb_tables.proofs.Each.{each_look}
 use Rattle.zb_tables.proofs.Growing.{same_bytes}
 use Rattle.zb_tables.proofs.Lookups.{block_same, clean_left, clean_none, clean_same}
 use Rattle.zb_tables.proofs.Versions.{ops_gone, ops_leave}
-use Rattle.zb_sound.specs.LookupsCurrent.{AreFetched, FileIs, IsCurrentFile, LookupIsCurrent, SameFound}
+use Rattle.zb_sound.specs.LookupsCurrent.{AreFetched, FileIs, IsCurrentFile, LookupIsCurrent, SameFound, ShowsFile}
 
 -- ---- the number of the next file never falls
 
@@ -200,3 +202,32 @@ fetched_stay contents new (e ∷ es) same are = (are.0 ∙ same.0, fetched_stay 
 pub pointer_stays : (contents new : Contents) (held : List HeldUse) (p : Ptr) → SameIn held contents new → IsCommitted held p ⊎ (new p.log p.stripe ≡ contents p.log p.stripe) → bytes_at contents p ≡ bytes_at new p
 pointer_stays contents new held p same (inl committed) = same_bytes held contents new same p committed
 pointer_stays contents new held p same (inr stays) = ap (λ (bytes : List ℕ). take p.len (drop p.offset bytes)) (sym stays)
+
+-- ---- what a lookup shows
+
+shown_form : (b : ℕ) (contents : Contents) (first count : ℕ) (found : Found) (file : FileState) → 0 < b → EndsInFile b file → found.length ≡ file.length
+    → ((k : ℕ) → first ≤ k → k < first + count → look k found.blocks ≡ look k file.blocks) → ShowsFile b contents first count found (shown_bytes b contents file)
+shown_form b contents first count found file pos ends long same = record {
+  length_is = long ∙ sym (length-first file.length (file_byte b contents file));
+  blocks = λ k y low high lt.
+      ap (λ (o : Option Ptr). block_byte contents o y) (same k low high)
+      ∙ sym (byte_shown b pos contents file ends (k * b + y) ∙ ap (λ (j : ℕ). block_byte contents (look j file.blocks) ((k * b + y) % b)) (div-mul-add k b y lt)
+      ∙ ap (block_byte contents (look k file.blocks)) (mod-mul-add k b y lt));
+}
+
+pub answered_shows : (b : ℕ) (contents : Contents) (t : Tables) (fid first count : ℕ) (file : FileState) → 0 < b → EachFile (EndsInFile b) t.files → look fid t.files ≡ Some file
+    → ShowsFile b contents first count (found t fid first count) (shown_bytes b contents file)
+answered_shows b contents t fid first count file pos ends at =
+    subst (λ (o : Option FileState). ShowsFile b contents first count (found_in t.members first count o) (shown_bytes b contents file)) (sym at)
+    (shown_form b contents first count (found_in t.members first count (Some file)) file pos (each_look (EndsInFile b) t.files fid file ends at) refl
+    (λ k low high. look-among first count k file.blocks low high))
+
+block_same_byte : (contents new : Contents) (o : Option Ptr) (y : ℕ) → ((p : Ptr) → o ≡ Some p → bytes_at contents p ≡ bytes_at new p) → block_byte new o y ≡ block_byte contents o y
+block_same_byte contents new None y same = refl
+block_same_byte contents new (Some p) y same = ap (λ (bytes : List ℕ). slice_index bytes y) (sym (same p refl))
+
+pub grown_shows : (b : ℕ) (contents new : Contents) (first count : ℕ) (found : Found) (bytes : List ℕ) → SameFound contents new found → ShowsFile b contents first count found bytes → ShowsFile b new first count found bytes
+grown_shows b contents new first count found bytes same s = record {
+  length_is = s.length_is;
+  blocks = λ k y low high lt. block_same_byte contents new (look k found.blocks) y (same k) ∙ s.blocks k y low high lt;
+}

@@ -1,12 +1,12 @@
 -- What a client, the cleaner or the mender has looked up and fetched, against the tables and stripes as they are now.
-use Rattle.std.specs.Prelude.{◌≡◌, ℕ, ◌+◌, ◌≤◌, ◌<◌, List, take, Some}
+use Rattle.std.specs.Prelude.{◌≡◌, ℕ, ◌+◌, ◌*◌, ◌≤◌, ◌<◌, List, length, take, slice_index, Some}
 use Rattle.std.specs.List.{AllByRecursion}
 use Rattle.zb_types.specs.declared.ids.LogId.{LogId}
 use Rattle.zb_types.specs.declared.ids.Ptr.{Ptr}
 use Rattle.zb_types.specs.declared.tables.Found.{Found}
 use Rattle.zb_types.specs.Keyed.{look}
 use Rattle.zb_holding.specs.Holding.{View, StripeRemains}
-use Rattle.zb_tables.specs.Tables.{Contents, FileState, Tables, bytes_at}
+use Rattle.zb_tables.specs.Tables.{Contents, FileState, Tables, block_byte, bytes_at}
 use Rattle.zb_tables.specs.Looking.{SameBlock}
 use Rattle.zb_tables.specs.Taking.{Sizes}
 use Rattle.zb_recovery.specs.Missing.{Servers}
@@ -29,6 +29,12 @@ pub record IsCurrentFile (contents : Contents) (t : Tables) (fid first count : �
 -- a lookup of some blocks of a file is current; of one that found no file, at version 0, nothing is said
 abbrev pub LookupIsCurrent : Contents → Tables → ℕ → ℕ → ℕ → Found → Type 0
 LookupIsCurrent contents t fid first count found = 1 ≤ found.version → IsCurrentFile contents t fid first count found
+
+-- The blocks that were found, read at these contents, are those of a file with these bytes, whatever becomes of the file:
+-- of the range, the `count` blocks of b bytes from `first` on.
+pub record ShowsFile (b : ℕ) (contents : Contents) (first count : ℕ) (found : Found) (bytes : List ℕ) : Type 0 where
+  pub length_is : found.length ≡ length bytes
+  pub blocks : (k y : ℕ) → first ≤ k → k < first + count → y < b → block_byte contents (look k found.blocks) y ≡ slice_index bytes (k * b + y)
 
 -- the pointers of a lookup name the same bytes in both
 abbrev pub SameFound : Contents → Contents → Found → Type 0

@@ -26,7 +26,9 @@ pub use last_flushes::{
     requests_find_their_places,
 };
 pub use logs_current::{current_logs_are_taken, logs_stay_current};
-pub use lookups_current::{fetched_blocks_stay, lookups_stay_current, old_stripes_stay_right};
+pub use lookups_current::{
+    fetched_blocks_stay, lookups_show_their_files, lookups_stay_current, old_stripes_stay_right,
+};
 pub use nodes_fit::{fit_nodes_leave_others_fit, nodes_stay_fit};
 pub use old_stripes::{copies_stay_current, stray_fragments_may_go, stray_stripes_stay};
 pub use owners::log_of_an_owner;

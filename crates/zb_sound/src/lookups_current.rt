@@ -13,7 +13,7 @@ ghost use Rattle.zb_holding.specs.Holding.{View, standing, away_at};
 ghost use Rattle.zb_delta.specs.declared.delta.Delta.{Delta};
 ghost use Rattle.zb_batch.specs.declared.batch.Op.{Op};
 ghost use Rattle.zb_batch.specs.declared.batch.Op.TheVariants.{Clean};
-ghost use Rattle.zb_tables.specs.Tables.{Contents, FileState, SameIn, Tables, bytes_at, EachFile, IsCommitted, PointsIn, held_at};
+ghost use Rattle.zb_tables.specs.Tables.{Contents, FileState, SameIn, Tables, bytes_at, shown_bytes, EachFile, EndsInFile, IsCommitted, PointsIn, held_at};
 ghost use Rattle.zb_tables.specs.Checkpoint.{AreTables};
 ghost use Rattle.zb_tables.specs.Fold.{Shelf, committed, done_ops, shelf_of};
 ghost use Rattle.zb_tables.specs.Finding.{found};
@@ -27,7 +27,7 @@ ghost use Rattle.zb_recovery.specs.Missing.{Servers};
 ghost use Rattle.zb_recovery.specs.Agreeing.{StripeAgrees};
 ghost use Rattle.zb_sound.specs.Standing.{StandFor, seen};
 ghost use Rattle.zb_sound.specs.Delivering.{allowed, any_one, Missing, Misses};
-ghost use Rattle.zb_sound.specs.LookupsCurrent.{AreFetched, FileIs, IsCurrentFile, LookupIsCurrent, RemainsIn, SameFound, StripeStaysRight};
+ghost use Rattle.zb_sound.specs.LookupsCurrent.{AreFetched, FileIs, IsCurrentFile, LookupIsCurrent, RemainsIn, SameFound, ShowsFile, StripeStaysRight};
 
 /// A lookup stays current: as it is answered; where contents grow; at a commit of updates and one of copies; and wherever
 /// names and files are as before, as at each other entry.
@@ -53,6 +53,16 @@ pub fn lookups_stay_current()
         → LookupIsCurrent contents t fid first count found → 1 ≤ found.version → look fid t.files ≡ Some file → file.version ≡ found.version
         → ((k : ℕ) (p : Ptr) → look k (new_blocks deltas) ≡ Some p → (first ≤ k) × (k < first + count))
         → IsCurrent contents found.blocks file deltas }
+{}
+
+/// What a lookup has found shows its file as it was when it was answered, so that a read is answered from that moment's tree:
+/// it does at once, and goes on so while its pointers name the same bytes.
+pub fn lookups_show_their_files()
+    ensures answered { (b : ℕ) (contents : Contents) (t : Tables) (fid first count : ℕ) (file : FileState)
+        → 0 < b → EachFile (EndsInFile b) t.files → look fid t.files ≡ Some file
+        → ShowsFile b contents first count (found t fid first count) (shown_bytes b contents file) }
+    ensures contents { (b : ℕ) (contents new : Contents) (first count : ℕ) (found : Found) (bytes : List ℕ)
+        → SameFound contents new found → ShowsFile b contents first count found bytes → ShowsFile b new first count found bytes }
 {}
 
 /// What was fetched stays what its pointers name where these name the same bytes; pointers into what is held, and into

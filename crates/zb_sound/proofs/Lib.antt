@@ -21,3 +21,4 @@ pub mod Righted
 pub mod Sites
 pub mod Strays
 pub mod Covering
+pub mod Sealings

@@ -14,6 +14,7 @@ mod old_stripes;
 mod owners;
 mod rebuilding;
 mod recovery;
+mod sealed;
 
 pub use changes::{changes_keep, contents_may_grow, finish_keeps};
 pub use commits::{clean_leaves_tree, commit_may_be_cut_off, commit_takes_tree, flush_is_flushed};
@@ -34,3 +35,4 @@ pub use old_stripes::{copies_stay_current, stray_fragments_may_go, stray_stripes
 pub use owners::log_of_an_owner;
 pub use rebuilding::{rebuild_stays_covered, whole_stripes_stand};
 pub use recovery::{first_platters_stand, sound_recovers, what_is_said_is_in_form};
+pub use sealed::sealed_batches_are_found;

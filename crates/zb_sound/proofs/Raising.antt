@@ -1,17 +1,27 @@
 -- What stands after a flush stands up to the ends that its pieces raise.
 use Rattle.std.proofs.Common.{◌≡◌, ℕ, ◌+◌, ◌-◌, ◌≤◌, max, eqb, List, [], ◌∷◌, length, Some, refl, sym, ap, ◌∙◌, subst, inl, inr, arith}
 use Rattle.std.proofs.lemmas.Bool.{cases_Bool, and_parts, eqb-true}
+use Rattle.std.specs.List.{AllByRecursion}
 use Rattle.std.proofs.lemmas.Option.{same_Some}
 use Rattle.zb_types.specs.declared.ids.LogId.{LogId}
 use Rattle.zb_types.specs.declared.ids.Piece.{Piece}
 use Rattle.zb_types.specs.declared.tables.HeldUse.{HeldUse}
-use Rattle.zb_holding.specs.Holding.{View, standing, away_at}
+use Rattle.zb_holding.specs.Holding.{View, StripeHolds, standing, away_at}
 use Rattle.zb_stripe_laws.proofs.Keeping.{holds_less}
 use Rattle.zb_tables.specs.Tables.{is_of, held_at, end_at, Contents}
 use Rattle.zb_tables.specs.Fold.{held_with, held_with_all, born_of}
 use Rattle.zb_recovery.specs.Agreeing.{StripeAgrees, ViewAgrees}
 use Rattle.zb_tables.proofs.Holding.{held_at-put_same, held_at-put_other, end-put}
-use Rattle.zb_sound.specs.Raising.{PieceStands, PiecesStand}
+
+-- the stripe of a piece stands, to the end of its bytes, with what was committed before and with the piece
+pub record PieceStands (v : View) (new : Contents) (held : List HeldUse) (log : LogId) (p : Piece) : Type 0 where
+  pub within : p.offset + p.len ≤ length (new log p.stripe)
+  pub before : end_at held log p.stripe ≤ length (new log p.stripe)
+  pub holds : StripeHolds v log p.stripe (length (new log p.stripe)) (new log p.stripe)
+
+-- the stripes of all pieces do
+abbrev pub PiecesStand : View → Contents → List HeldUse → LogId → List Piece → Type 0
+PiecesStand v new held log pieces = AllByRecursion (PieceStands v new held log) pieces
 
 module _ (v : View) (new : Contents) (log : LogId) (born : ℕ) where
   abbrev Agrees : LogId → ℕ → ℕ → Type 0

@@ -21,17 +21,20 @@ use Rattle.zb_stripe_laws.proofs.Plans.{rise_differ}
 use Rattle.zb_log.specs.Sealing.{GoesNext, given_of}
 use Rattle.zb_tables.specs.Tables.{Contents, SameIn, Tables, end_of, held_at}
 use Rattle.zb_tables.specs.Fold.{held_with_all}
-use Rattle.zb_tables.specs.Replay.{Platter}
-use Rattle.zb_tables.specs.Taking.{Sizes, stripe_room}
+use Rattle.zb_batch.specs.declared.batch.Batch.{Batch}
+use Rattle.zb_entries.specs.declared.entry.Entry.TheVariants.{Commit}
+use Rattle.zb_tables.specs.Pointing.{OpsLie}
+use Rattle.zb_tables.specs.Replay.{IsBatchOf, Platter}
+use Rattle.zb_tables.specs.Taking.{MayCommit, Sizes, commit_refusal, stripe_room}
 use Rattle.zb_recovery.specs.Missing.{Servers}
 use Rattle.zb_sound.specs.Standing.{StandFor, seen}
-use Rattle.zb_sound.specs.Delivering.{BeginsAsHeld, after_asked, FlushBegins, ForEach, IsNext, MayGoOn, Missing, PartFits, PartStands, with_parts}
-use Rattle.zb_sound.specs.Committing.{AreInFlush}
+use Rattle.zb_sound.specs.Delivering.{BeginsAsHeld, after_asked, allowed, FlushBegins, ForEach, IsNext, MayGoOn, Missing, PartFits, PartStands, with_parts}
+use Rattle.zb_sound.specs.Committing.{AreInFlush, IsFlushed}
 use Rattle.zb_sound.specs.Staying.{LeavesParts, SameStripes}
-use Rattle.zb_sound.specs.LastFlush.{IsLastOf, LastFlush, NothingFrom, Phase, anew, behind, flushing, parts_in, PhaseStands, stripe_of}
+use Rattle.zb_sound.specs.LastFlush.{after_all, IsLastOf, LastFlush, NothingFrom, Phase, anew, behind, flushing, parts_in, PhaseStands, stripe_of}
 use Rattle.zb_sound.proofs.Listed.{Among, at_part}
-use Rattle.zb_sound.proofs.Delivering.{flush_begins, flush_ends, next_works, get_behind}
-use Rattle.zb_sound.proofs.Flushing.{commit_covers, fits_covers, next_begins, next_fits}
+use Rattle.zb_sound.proofs.Delivering.{next_stands, flush_begins, flush_ends, next_works, get_behind}
+use Rattle.zb_sound.proofs.Flushing.{commit_covers, flushed_stand, parts_same, fits_covers, next_begins, next_fits}
 use Rattle.zb_sound.proofs.Staying.{go_on_stays, works_stay}
 use Rattle.zb_sound.proofs.Unheld.{unwritten_not_held}
 use Rattle.zb_sound.proofs.Fronts.{behind_request, last_greatest, nothing_still, plan_of, stripe_within}
@@ -241,3 +244,34 @@ module _ (z : Sizes) (contents new : Contents) (st : Servers) (held : List HeldU
 
   pub last_grows : (front : ℕ) (phase : Phase) → LastFlush z contents st held who log front phase → LastFlush z new st held who log front phase
   last_grows front phase w = record { nothing = w.nothing; reached = w.reached; stands = phase_grows phase w.stands }
+
+-- ---- a flush to its end
+
+module _ (z : Sizes) (contents : Contents) (p : Platter) (tables : Tables) (tree : Tree) (log : LogId) (out : Option ServerId) (class : Class) (flush : Flush) where
+  abbrev AtWork : Servers → ℕ → Requests → Type 0
+  AtWork st front left = LastFlush z contents st tables.held (allowed tables.members) log front (flushing out class flush left)
+
+  pub to_end : (left : Requests) (st : Servers) (front : ℕ) → StandFor z contents p st tables tree → AtWork st front left
+      → (later : ℕ) × StandFor z contents p (after_all st left) tables tree × AtWork (after_all st left) later []
+  to_end [] st front s w = (front, s, w)
+  to_end (r ∷ rest) st front s w =
+      to_end rest (after_asked st r) (max front (stripe_of r.1 + 1)) (next_stands z contents out class flush p st tables tree s (r ∷ rest) r refl w.stands.works)
+      (last_goes_on z contents st tables.held (allowed tables.members) log front out class flush (r ∷ rest) r refl w)
+
+pub ended_flushed : (z : Sizes) (contents : Contents) (p : Platter) (st : Servers) (tables : Tables) (tree : Tree) (front : ℕ) (out : Option ServerId) (class : Class) (flush : Flush)
+    (number generation : ℕ) (pieces : List Piece) (batch : Batch) → StandFor z contents p st tables tree → LastFlush z contents st tables.held (allowed tables.members) flush.log front (flushing out class flush [])
+    → AreInFlush flush pieces → IsBatchOf (with_parts contents flush.log flush.parts) (Commit flush.log number generation pieces) batch → MayCommit z tables batch pieces
+    → commit_refusal z.block tables batch pieces generation ≡ None → OpsLie (held_with_all flush.log tables.next_entry pieces tables.held) batch.ops
+    → IsFlushed z contents (with_parts contents flush.log flush.parts) st tables flush.log number generation pieces batch
+ended_flushed z contents p st tables tree front out class flush number generation pieces batch s w are spells may taken lie =
+    let differ = rise_differ flush.parts w.stands.rise in
+    let fits = w.stands.works.fits in
+    record {
+      same = parts_same contents flush.log z tables.held flush.parts fits differ;
+      spells = spells;
+      may = may;
+      taken = taken;
+      stand = λ x missing. flushed_stand z contents tables.held flush differ fits (seen z st x)
+          (flush_ends z contents out class flush st tables.held (allowed tables.members) w.stands.works x missing) (s.agree.agree x missing) tables.next_entry pieces are;
+      lie = lie;
+    }

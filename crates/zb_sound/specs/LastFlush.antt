@@ -15,7 +15,7 @@ use Rattle.zb_stripe.specs.Writing.{StripesRise, plan_requests}
 use Rattle.zb_tables.specs.Tables.{Contents}
 use Rattle.zb_tables.specs.Taking.{Sizes}
 use Rattle.zb_recovery.specs.Missing.{Servers}
-use Rattle.zb_sound.specs.Delivering.{Missing, FlushWorks, MayGoOn}
+use Rattle.zb_sound.specs.Delivering.{Missing, FlushWorks, MayGoOn, after_asked}
 
 -- no server has a fragment of a log's stripe `front`, nor of a later one
 abbrev pub NothingFrom : Maps → LogId → ℕ → Type 0
@@ -96,3 +96,8 @@ abbrev pub FindsItsPlace : Request → (FragId → Option Fragment) → Type 0
 FindsItsPlace (ask.Store id bytes class) stands = stands id ≡ None
 FindsItsPlace (ask.Append id place bytes) stands = EndsAt (stands id) place
 FindsItsPlace request stands = Unit {0}
+
+-- the servers, once these requests were carried out one behind the other
+abbrev pub after_all : Servers → List (ServerId × Request) → Servers
+after_all st [] = st
+after_all st (asked ∷ rest) = after_all (after_asked st asked) rest

@@ -18,15 +18,18 @@ ghost use Rattle.zb_stripe_laws.specs.PartAtWork.{IsSpared};
 ghost use Rattle.zb_log.specs.Sealing.{GoesNext};
 ghost use Rattle.zb_tables.specs.Tables.{Contents, SameIn, Tables};
 ghost use Rattle.zb_tables.specs.Fold.{held_with_all};
-ghost use Rattle.zb_tables.specs.Replay.{Platter};
-ghost use Rattle.zb_tables.specs.Taking.{Sizes, stripe_room};
+ghost use Rattle.zb_batch.specs.declared.batch.Batch.{Batch};
+ghost use Rattle.zb_entries.specs.declared.entry.Entry.TheVariants.{Commit};
+ghost use Rattle.zb_tables.specs.Pointing.{OpsLie};
+ghost use Rattle.zb_tables.specs.Replay.{IsBatchOf, Platter};
+ghost use Rattle.zb_tables.specs.Taking.{MayCommit, Sizes, commit_refusal, stripe_room};
 ghost use Rattle.zb_recovery.specs.Missing.{Servers};
 ghost use Rattle.zb_sound.specs.Standing.{StandFor};
-ghost use Rattle.zb_sound.specs.Delivering.{after_asked, FlushBegins, FlushWorks, ForEach, Misses, Missing, with_parts};
-ghost use Rattle.zb_sound.specs.Committing.{AreInFlush};
+ghost use Rattle.zb_sound.specs.Delivering.{after_asked, allowed, FlushBegins, FlushWorks, ForEach, Misses, Missing, with_parts};
+ghost use Rattle.zb_sound.specs.Committing.{AreInFlush, IsFlushed};
 ghost use Rattle.zb_sound.specs.Changing.{OthersSame};
 ghost use Rattle.zb_sound.specs.Staying.{LeavesParts, SameStripes};
-ghost use Rattle.zb_sound.specs.LastFlush.{FindsItsPlace, IsBefore, IsLastOf, LastFlush, NothingFrom, NothingOfNew, OfName, Phase, anew, behind, flushing, parts_in, stripe_of};
+ghost use Rattle.zb_sound.specs.LastFlush.{after_all, FindsItsPlace, IsBefore, IsLastOf, LastFlush, NothingFrom, NothingOfNew, OfName, Phase, anew, behind, flushing, parts_in, stripe_of};
 
 /// A flush that a log has made finds its place: in the log's stripe its part begins behind what the last flush left
 /// there, and nothing stands of the later stripes.
@@ -81,6 +84,23 @@ pub fn last_flush_of_a_log()
         → LastFlush z (with_parts contents log flush.parts) st (held_with_all log born pieces held) who log front (behind part) }
     ensures given_up { (z : Sizes) (contents new : Contents) (st : Servers) (held later : List HeldUse) (who after : Missing) (log : LogId) (front at : ℕ) (phase : Phase)
         → LastFlush z contents st held who log front phase → front ≤ at → LastFlush z new st later after log at anew }
+{}
+
+/// A flush whose requests are all carried out, one behind the other, comes to its end, and leaves what the platters stand
+/// for; and a batch whose pieces are those of the flush's parts may then be committed, where nothing refuses it.
+pub fn flushes_come_to_their_end()
+    ensures ends { (z : Sizes) (contents : Contents) (p : Platter) (st : Servers) (tables : Tables) (tree : Tree) (log : LogId) (front : ℕ)
+        (out : Option ServerId) (class : Class) (flush : Flush) (left : List (ServerId × Request))
+        → StandFor z contents p st tables tree → LastFlush z contents st tables.held (allowed tables.members) log front (flushing out class flush left)
+        → (later : ℕ) × StandFor z contents p (after_all st left) tables tree
+        × LastFlush z contents (after_all st left) tables.held (allowed tables.members) log later (flushing out class flush []) }
+    ensures flushed { (z : Sizes) (contents : Contents) (p : Platter) (st : Servers) (tables : Tables) (tree : Tree) (front : ℕ)
+        (out : Option ServerId) (class : Class) (flush : Flush) (number generation : ℕ) (pieces : List Piece) (batch : Batch)
+        → StandFor z contents p st tables tree → LastFlush z contents st tables.held (allowed tables.members) flush.log front (flushing out class flush [])
+        → AreInFlush flush pieces → IsBatchOf (with_parts contents flush.log flush.parts) (Commit flush.log number generation pieces) batch
+        → MayCommit z tables batch pieces → commit_refusal z.block tables batch pieces generation ≡ None
+        → OpsLie (held_with_all flush.log tables.next_entry pieces tables.held) batch.ops
+        → IsFlushed z contents (with_parts contents flush.log flush.parts) st tables flush.log number generation pieces batch }
 {}
 
 /// What leaves the last flush of a log: whatever leaves its parts and puts nothing into the stripes from the front on, and

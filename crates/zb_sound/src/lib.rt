@@ -23,8 +23,8 @@ pub use flushes::{
     requests_beside_keep,
 };
 pub use last_flushes::{
-    flush_finds_its_place, last_flush_of_a_log, last_flush_stays, nothing_is_of_new_logs,
-    requests_find_their_places,
+    flush_finds_its_place, flushes_come_to_their_end, last_flush_of_a_log, last_flush_stays,
+    nothing_is_of_new_logs, requests_find_their_places,
 };
 pub use logs_current::{current_logs_are_taken, logs_stay_current};
 pub use lookups_current::{

@@ -9,7 +9,7 @@ ghost use Rattle.zb_names.specs.Answers.{IsAnswer};
 use crate::entries::{Entry, copy_of};
 use crate::faults::NameFault;
 use crate::looking::refusal_of_new;
-use crate::moving::{movable, moved};
+use crate::moving::{movable, moved_below};
 use crate::table::Names;
 use std::alloc::Global;
 use std::marker::Model;
@@ -20,17 +20,19 @@ use zb_types::{Call, Fid, Mem, Path};
 #[derive(Drop)]
 pub struct Prepared {
     gone: Option<Path>,
-    fresh: Vec<(Path, Entry)>,
+    first: Option<(Path, Entry)>,
+    below: Vec<(Path, Entry)>,
     next: u32,
 }
 
 impl Model for Prepared {
-    ghost use Rattle.zb_names.specs.Shown.{listed};
-    ghost use Rattle.zb_names.specs.Changing.{Changed};
+    ghost use Rattle.zb_names.specs.Changing.{Changed, LieBelow, fresh_of};
 
     ghost Value = { Changed };
 
-    ghost view = { λ a. record { gone = a.gone; fresh = listed a.fresh.items; next = a.next } };
+    ghost view = { λ a. record { gone = a.gone; fresh = fresh_of a.first a.below.items; next = a.next } };
+
+    ghost invariant = { λ a. LieBelow (fresh_of a.first a.below.items) };
 }
 
 impl Names {
@@ -39,11 +41,10 @@ impl Names {
         ensures made { IfOk result (λ made. made ≡ record { gone = None; fresh = (path.now, seen entry) ∷ []; next = next }) }
         ensures path { OnOk result (is_path path.now ≡ true) }
     {
-        let mut fresh = Vec::new(alloc);
-        fresh.push((copy_of(alloc, path)?, entry))?;
         Ok(Prepared {
             gone: None,
-            fresh,
+            first: Some((copy_of(alloc, path)?, entry)),
+            below: Vec::new(alloc),
             next,
         })
     }
@@ -81,7 +82,8 @@ impl Names {
         self.removable(path)?;
         Ok(Prepared {
             gone: Some(path.copy(alloc)?),
-            fresh: Vec::new(alloc),
+            first: None,
+            below: Vec::new(alloc),
             next: self.next,
         })
     }
@@ -100,7 +102,8 @@ impl Names {
         let entry = movable(&self.kept, from.slice(), to.slice())?;
         Ok(Prepared {
             gone: Some(from.copy(alloc)?),
-            fresh: moved(alloc, &self.kept, entry, from.slice(), to.slice())?,
+            first: Some((to.copy(alloc)?, entry)),
+            below: moved_below(alloc, &self.kept, from.slice(), to.slice())?,
             next: self.next,
         })
     }
@@ -117,7 +120,8 @@ impl Names {
         }
         Ok(Prepared {
             gone: None,
-            fresh: Vec::new(alloc),
+            first: None,
+            below: Vec::new(alloc),
             next: self.next,
         })
     }
@@ -138,14 +142,20 @@ impl Names {
         }
     }
 
-    /// Carries out an operation that was prepared at these names, without memory.
+    /// Carries out an operation that was prepared at these names, without memory. What lies below a path goes out or in as
+    /// one: a few passes over the names, however many a rename takes along.
     pub fn apply(&mut self, prepared: Prepared)
         requires { MayCarry prepared self.old }
         ensures { self.new ≡ carried prepared self.old }
     {
-        let Prepared { gone, fresh, next } = prepared;
+        let Prepared {
+            gone,
+            first,
+            below,
+            next,
+        } = prepared;
         self.kept.remove_gone(&gone);
-        self.kept.put_all(fresh);
+        self.kept.put_all(first, below);
         self.next = next;
     }
 }

@@ -21,7 +21,9 @@ use zb_types::{Fid, Mem, NameList, Path, Refusal};
 pub(crate) const LAST_NUMBER: u32 = 4_294_967_295;
 
 /// Files and directories under their paths, which contracts see as the names of the plain tree. There is room for the
-/// most names from the start: an operation takes memory for new paths alone.
+/// most names from the start: an operation takes memory for new paths alone. They lie in one row in the order of their
+/// bytes. A path is found by halving; what is put in or taken out moves each name behind it, once for an entry and once
+/// for all that is below it.
 #[derive(Drop)]
 pub struct Names {
     pub(crate) next: u32,

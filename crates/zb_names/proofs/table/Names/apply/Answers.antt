@@ -1,9 +1,17 @@
 use Rattle.std.proofs.Common.{◌≡◌, length, sym, ap, subst, ◌∙◌, arith}
 use Rattle.zb_types.specs.Names.{Names, with_entries}
 use Rattle.zb_names.specs.Sound.{IsTree}
-use Rattle.zb_names.specs.Changing.{Changed, staying}
+use Rattle.zb_names.specs.Changing.{Changed, HasNoneBelow, staying}
 use Rattle.zb_names.proofs.Carrying.{length-with_entries}
+use Rattle.zb_names.proofs.Together.{none_below_fresh}
 use Rattle.zb_names.proofs.table.Names.apply.Goals as goal
+
+pub put_all-requires-clause-none : goal.put_all-requires-clause-none
+put_all-requires-clause-none c =
+    let removed = c.remove_gone.ensures.entries ∙ (λ i. staying (c.prepared.view_is i).gone (c.self.view_is i).entries) in
+    let tree = subst (λ (n : Names). IsTree n.next n.entries) c.self.view_is c.self.invariant.tree in
+    let none = none_below_fresh c.args.prepared c.args.self.now tree c.requires in
+    rw removed (subst (λ (d : Changed). HasNoneBelow d.fresh (staying c.args.prepared.gone c.args.self.now.entries)) (sym c.prepared.view_is) none)
 
 pub invariant_of-self : goal.invariant_of-self
 invariant_of-self c =

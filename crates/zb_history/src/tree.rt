@@ -56,14 +56,14 @@ impl Tree {
         ensures ok { OnOk result (self.new ≡ applied self.old (Create path.now)) }
         ensures err { OnErr result (self.new ≡ self.old) }
     {
-        let mut names = self.names.copy(alloc)?;
-        match names.create(alloc, path) {
+        match self.names.prepare_create(alloc, path) {
             Err(NameFault::NoMemory) => Err(NoMemory),
             Err(NameFault::Refused(why)) => Ok(Reply::Refused(why)),
-            Ok(fid) => {
+            Ok(prepared) => {
+                let fid = Fid(self.names.next());
                 let empty = ByteList::new(alloc)?;
                 self.files.insert(fid.0, empty)?;
-                self.names = names;
+                self.names.apply(prepared);
                 Ok(Reply::Made(fid))
             }
         }

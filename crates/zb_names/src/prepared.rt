@@ -49,8 +49,8 @@ impl Names {
         })
     }
 
-    // What makes a file.
-    pub(crate) fn prepare_create(&self, alloc: Global, path: &Path) -> Result<Prepared, NameFault>
+    /// Takes all memory for a file that is made at the path: what `prepare` does for such a call.
+    pub fn prepare_create(&self, alloc: Global, path: &Path) -> Result<Prepared, NameFault>
         ensures may { IfOk result (λ made. MayCarry made self.now) }
         ensures leads { IfOk result (λ made. carried made self.now ≡ name_effect self.now (Create path.now)) }
         ensures refused { IsAnswer (name_refusal self.now (Create path.now)) result }

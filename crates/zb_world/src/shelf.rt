@@ -195,17 +195,13 @@ impl Shelf {
         ensures err { OnErr result (self.new.tree ≡ self.old.tree) }
         ensures blocks { self.new.blocks ≡ self.old.blocks }
     {
-        let fid = Fid(self.names.next());
-        self.files.add(alloc, fid)?;
-        match self.names.create(alloc, path) {
-            Ok(_) => Ok(()),
-            Err(NameFault::Refused(_)) => {
-                self.files.remove(fid);
+        match self.names.prepare_create(alloc, path) {
+            Err(NameFault::NoMemory) => Err(NoMemory),
+            Err(NameFault::Refused(_)) => Ok(()),
+            Ok(prepared) => {
+                self.files.add(alloc, Fid(self.names.next()))?;
+                self.names.apply(prepared);
                 Ok(())
-            }
-            Err(NameFault::NoMemory) => {
-                self.files.remove(fid);
-                Err(NoMemory)
             }
         }
     }

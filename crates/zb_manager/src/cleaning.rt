@@ -15,8 +15,8 @@ use std::alloc::Global;
 use std::collections::BTreeMap;
 use zb_conflict::{Decision, decide, table_moves_blocks};
 use zb_delta::{Body, Delta, DeltaList};
-use zb_pointers::{FileHead, Pointers};
 use zb_log_tables::ReplyList;
+use zb_pointers::{FileHead, Pointers};
 use zb_types::{Fid, Mem, NoMemory, Ptr};
 
 // Where moves have put a block, by its file and its number.

@@ -7,8 +7,8 @@ ghost use Rattle.zb_manager.specs.Plans.{IsNamePlan, name_plan, removal};
 
 use crate::work::Work;
 use std::alloc::Global;
-use zb_names::{Entry, NameFault, Names, Prepared as NameChange};
 use zb_log_tables::ReplyList;
+use zb_names::{Entry, NameFault, Names, Prepared as NameChange};
 use zb_types::{Call, Fid, Mem, NoMemory, Path, Reply};
 
 /// What a batch comes to, before its numbers and its room are looked at.

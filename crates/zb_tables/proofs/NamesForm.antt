@@ -5,14 +5,14 @@ use Rattle.std.specs.List.{AllByRecursion, flat_map, list_any}
 use Rattle.std.specs.Map.{keys_of}
 use Rattle.std.specs.Ordering.{nat_cmp, is_lt}
 use Rattle.std.specs.Cmp.Lexicographic.{slice_cmp}
-use Rattle.std.proofs.lemmas.Bool.{cases_Bool, cond_both, eqb-true}
+use Rattle.std.proofs.lemmas.Bool.{cases_Bool, cond_both, eqb-true, or_parts}
 use Rattle.std.proofs.lemmas.Option.{none-some}
 use Rattle.zb_types.specs.Keyed.{look, put, replaced, without}
 use Rattle.zb_types.specs.Names.{Entry, with_entry, with_entries, find, is_below}
 use Rattle.zb_types.proofs.KeyedLists.{IsRising, look-below, without_absent}
-use Rattle.zb_names.specs.Changing.{relocated, within}
+use Rattle.zb_names.specs.Changing.{below, relocated, within}
 use Rattle.zb_names.specs.Sound.{IsTree}
-use Rattle.zb_names.proofs.Within.{below-none, within-found}
+use Rattle.zb_names.proofs.Within.{within-found}
 use Rattle.zb_tables.specs.Checkpoint.{number_of}
 use Rattle.zb_tables.proofs.Counted.{one, times, times-append}
 
@@ -62,6 +62,13 @@ moved_same k cut to (e ∷ es) =
     let b = with_cons k e es in
     let rest = moved_same k cut to es in
     omega arith
+
+-- below a path below which nothing is there are no entries
+below-none : (path : List ℕ) (es : Entries) → list_any (λ e. is_below path e.0) es ≡ false → below path es ≡ []
+below-none path [] none = refl
+below-none path (e ∷ es) none =
+    let parts = or_parts (is_below path e.0) (list_any (λ x. is_below path x.0) es) none in
+    rw parts.0 (below-none path es parts.1)
 
 -- the entries at and below a path below which there is none
 pub only_found : (next k : ℕ) (path : List ℕ) (entry : Entry) (es : Entries) → IsTree next es → find path es ≡ Some entry → list_any (λ e. is_below path e.0) es ≡ false

@@ -58,8 +58,6 @@ pub record IsBatchOf (b : ℕ) (log : LogId) (number : ℕ) (calls : List Number
   pub new : new_ptrs batch.ops ≡ ptrs
   pub lens : map (λ p. p.len) ptrs ≡ map length blocks
   pub of_calls : IsOfCalls b calls basis batch ptrs blocks
-  pub spelled : IsSpellable batch
-  pub whole : 1 ≤ number → IsBatch batch
 
 -- the log where a batch is placed: as it is, or behind this stripe
 abbrev pub log_from : SeenLog → Option ℕ → SeenLog
@@ -94,6 +92,8 @@ pub record IsFormed (n f b : ℕ) (log : SeenLog) (number : ℕ) (members : Memb
   pub blocks : List (List ℕ)
   pub seen : formed.sealed.members ≡ members
   pub is_batch : IsBatchOf b log.log number calls basis formed.sealed.batch formed.sealed.placed.ptrs blocks
+  pub spelled : IsSpellable formed.sealed.batch
+  pub whole : 1 ≤ number → IsBatch formed.sealed.batch
   pub laid : IsLaid log (meta_length formed.sealed.batch) (map length blocks) formed.sealed.placed
   -- the log may go on behind it
   pub is_sealed : IsSealed log formed.sealed.placed formed.fresh

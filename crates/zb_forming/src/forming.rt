@@ -26,6 +26,7 @@ pub fn form(
     requires servers { log.now.servers ≡ to.geo.servers }
     requires fragment { log.now.fragment ≡ to.geo.fragment }
     requires block { log.now.block ≡ to.geo.block }
+    requires room { log.now.room ≡ room_of to.geo.servers to.geo.fragment }
     requires behind { IfSome to.behind (λ last. last ≤ last_stripe) }
 
     // The calls form one batch.

@@ -75,7 +75,7 @@ fn first_only(changes: &[Change]) -> &[Change]
 }
 
 /// A write's length as its operation has it.
-fn short_length(len: usize) -> u32
+pub(crate) fn short_length(len: usize) -> u32
     ensures { result ≡ short_length len }
 {
     len.min(u32::MAX as usize) as u32

@@ -1,1 +1,6 @@
 pub mod Looked
+pub mod Runs
+pub mod Moving
+pub mod Touching
+pub mod Wanted
+pub mod Asked

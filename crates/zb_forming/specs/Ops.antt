@@ -30,7 +30,7 @@ or_no_ptr (Some ptr) = ptr
 abbrev pub ptr_of : List Ptr → Was → Option Ptr
 ptr_of ptrs Hole = None
 ptr_of ptrs (Stored ptr) = Some ptr
-ptr_of ptrs (New place) = slice_get ptrs place
+ptr_of ptrs (New place) = Some (or_no_ptr (slice_get ptrs place))
 
 -- the delta of a change
 abbrev pub delta_of : List Ptr → Fid → ℕ → Change → Delta

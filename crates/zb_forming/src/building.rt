@@ -34,7 +34,7 @@ fn ptr_of(ptrs: &[Ptr], was: Was) -> Option<Ptr>
     match was {
         Was::Hole => None,
         Was::Stored(ptr) => Some(ptr),
-        Was::New(place) => ptrs.get(place).copied(),
+        Was::New(place) => Some(new_ptr(ptrs, place)),
     }
 }
 

@@ -4,3 +4,5 @@ pub mod Moving
 pub mod Touching
 pub mod Wanted
 pub mod Asked
+pub mod Covering
+pub mod Shown

@@ -23,7 +23,7 @@ use Rattle.zb_forming.proofs.Moving.{IsMoved, is-moved, Touched}
 use Rattle.zb_forming.proofs.Touching.{touched-more}
 
 -- over a range of blocks
-changes-flat : (b : ℕ) (call : Call) (f : ℕ → Change) (a n : ℕ) → wanted_changes b call (map f (range_with_len a n)) ≡ flat_map (λ x. wanted_for b call (f x)) (range_with_len a n)
+pub changes-flat : (b : ℕ) (call : Call) (f : ℕ → Change) (a n : ℕ) → wanted_changes b call (map f (range_with_len a n)) ≡ flat_map (λ x. wanted_for b call (f x)) (range_with_len a n)
 changes-flat b call f a zero = refl
 changes-flat b call f a (suc n) = ap (λ rest. wanted_for b call (f a) ++ rest) (changes-flat b call f (a + 1) n)
 

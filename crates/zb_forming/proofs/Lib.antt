@@ -6,3 +6,4 @@ pub mod Wanted
 pub mod Asked
 pub mod Covering
 pub mod Shown
+pub mod Operating

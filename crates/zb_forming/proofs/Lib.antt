@@ -7,3 +7,4 @@ pub mod Asked
 pub mod Covering
 pub mod Shown
 pub mod Operating
+pub mod Batching

@@ -38,7 +38,7 @@ use Rattle.zb_forming.proofs.Asked.{is_fetched, known-is, known-none}
 use Rattle.zb_forming.proofs.Covering.{block-covered}
 use Rattle.zb_forming.proofs.Shown.{Shows, stands-same, version-same, done-same, done-short, new-changes, shows-done, shows-undone, Bounded, bound-more, changes-bound, stands-new, stands-stored}
 
-abbrev IsKnown : List Fetched → Ptr → Type 0
+abbrev pub IsKnown : List Fetched → Ptr → Type 0
 IsKnown fetched p = is_fetched fetched p ≡ true
 
 -- what stands at pointers: what was fetched, and the new blocks
@@ -202,3 +202,31 @@ module _ (b : ℕ) (fetched : List Fetched) (bytes : Ptr → List ℕ) (ptrs : L
         (sym (ap (is_longer b n) (stands-same ptrs changed s.drafts found fid (n / b) shows)
         ∙ longer-same s.blocks (made_by b (known fetched) s.blocks (Truncate fid n) (changes_of s.drafts found fid.0 (n / b) (length s.blocks) (if is_cut b n (length_at s.blocks (stands s.drafts found fid.0 (n / b))) then 1 else 0)) ++ rest) n (stands s.drafts found fid.0 (n / b)) front (λ place e. new-place fid.0 (n / b) place e)))
         (cut-delta fid n rest (is_cut b n (length_at s.blocks (stands s.drafts found fid.0 (n / b)))) refl front wants version)
+
+    -- ---- the operation of a call
+
+    pub op-is : (number : ℕ) (call : Call) (rest : List (List ℕ)) → is_update call ≡ true
+        → s.blocks ++ (made_by b (known fetched) s.blocks call (draft_of b s call found).changes ++ rest) ≡ all
+        → AllByRecursion (IsKnown fetched) (wanted_changes b call (draft_of b s call found).changes)
+        → OpIs b bytes changed number call found (op_made ptrs number call (draft_of b s call found))
+    op-is number (Write fid offset text) rest update front wants = (refl, refl, version-same ptrs changed s.drafts found fid shows, refl, refl,
+        subst (λ t. MatchBool t
+        (WriteDeltas b bytes changed found fid (version_in s.drafts found fid.0) offset text (deltas_made ptrs fid (version_in s.drafts found fid.0) (draft_of b s (Write fid offset text) found).changes))
+        (deltas_made ptrs fid (version_in s.drafts found fid.0) (draft_of b s (Write fid offset text) found).changes ≡ []))
+        (sym (done-same s.drafts found fid.0 (offset + length text)))
+        (write-op fid offset text rest (is_done found.version (offset + length text)) front wants (version_in s.drafts found fid.0)))
+    op-is number (Truncate fid n) rest update front wants = (refl, refl, version-same ptrs changed s.drafts found fid shows, refl,
+        subst (λ t. MatchBool t
+        (CutDeltas b bytes fid (version_in s.drafts found fid.0) n (stands_now changed found fid (n / b)) (deltas_made ptrs fid (version_in s.drafts found fid.0) (first_only (draft_of b s (Truncate fid n) found).changes)))
+        (deltas_made ptrs fid (version_in s.drafts found fid.0) (first_only (draft_of b s (Truncate fid n) found).changes) ≡ []))
+        (sym (done-same s.drafts found fid.0 n))
+        (cut-op fid n rest (is_done found.version n) front wants (version_in s.drafts found fid.0)))
+    op-is number Sync rest update front wants = refl
+    op-is number (Create path) rest update front wants = (refl, refl, refl)
+    op-is number (Mkdir path) rest update front wants = (refl, refl, refl)
+    op-is number (Remove path) rest update front wants = (refl, refl, refl)
+    op-is number (Rename path to) rest update front wants = (refl, refl, refl)
+    op-is number (Read fid offset len) rest update front wants = (refl, refl, update)
+    op-is number (ListOf path) rest update front wants = (refl, refl, update)
+    op-is number (Stat path) rest update front wants = (refl, refl, update)
+    op-is number (Find path) rest update front wants = (refl, refl, update)

@@ -56,7 +56,7 @@ shows-if : (ptrs : List Ptr) (changed new : Changed) (ds : List Draft) (t : Bool
 shows-if ptrs changed new ds true one other = one refl
 shows-if ptrs changed new ds false one other = other refl
 
-only-same : (ds : List Draft) (found : Found) (g first start : ℕ) (t : Bool) → first_only (changes_of ds found g first start (if t then 1 else 0)) ≡ changes_of ds found g first start (if t then 1 else 0)
+pub only-same : (ds : List Draft) (found : Found) (g first start : ℕ) (t : Bool) → first_only (changes_of ds found g first start (if t then 1 else 0)) ≡ changes_of ds found g first start (if t then 1 else 0)
 only-same ds found g first start true = refl
 only-same ds found g first start false = refl
 

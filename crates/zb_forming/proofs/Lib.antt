@@ -8,3 +8,4 @@ pub mod Covering
 pub mod Shown
 pub mod Operating
 pub mod Batching
+pub mod Counting

@@ -32,9 +32,10 @@ pub fine : (b room : ℕ) (asks : List Ask) (founds : List Found) → AreFoundFo
 fine b room [] [] are = tt
 fine b room [] (found ∷ founds) are = absurd are
 fine b room (ask ∷ asks) [] are = absurd are
-fine b room (ask ∷ asks) (found ∷ founds) are =
-    (each-weaker (IsFoundBlock b room ask) (λ (e : ℕ × Ptr). IsFine b room e.1) found.blocks (λ e is. record { some = is.some; fits = is.fits; within = is.within }) (each-of (IsFoundBlock b room ask) found.blocks are.0.blocks)
-    , fine b room asks founds are.1)
+fine b room (ask ∷ asks) (found ∷ founds) are = (
+  each-weaker (IsFoundBlock b room ask) (λ (e : ℕ × Ptr). IsFine b room e.1) found.blocks (λ e is. record { some = is.some; fits = is.fits; within = is.within }) (each-of (IsFoundBlock b room ask) found.blocks are.0.blocks),
+  fine b room asks founds are.1,
+)
 
 pub any-here : {A : Type 0} (P : A → Type 0) (x : A) (xs : List A) → P x → Any P (x ∷ xs)
 any-here P x xs p = (0, x, omega arith, refl, p)
@@ -45,17 +46,19 @@ any-there P y xs (k, x, l, e, p) = (suc k, x, omega (arith, l), e, p)
 -- each pointer that was found is held
 entries-held : (es : List (ℕ × Ptr)) → AllByRecursion (λ (e : ℕ × Ptr). Any (λ (entry : ℕ × Ptr). entry.1 ≡ e.1) es) es
 entries-held [] = tt
-entries-held (e ∷ es) =
-    (any-here (λ (entry : ℕ × Ptr). entry.1 ≡ e.1) e es refl
-    , each-weaker (λ (x : ℕ × Ptr). Any (λ (entry : ℕ × Ptr). entry.1 ≡ x.1) es) (λ (x : ℕ × Ptr). Any (λ (entry : ℕ × Ptr). entry.1 ≡ x.1) (e ∷ es)) es (λ x any. any-there (λ (entry : ℕ × Ptr). entry.1 ≡ x.1) e es any) (entries-held es))
+entries-held (e ∷ es) = (
+  any-here (λ (entry : ℕ × Ptr). entry.1 ≡ e.1) e es refl,
+  each-weaker (λ (x : ℕ × Ptr). Any (λ (entry : ℕ × Ptr). entry.1 ≡ x.1) es) (λ (x : ℕ × Ptr). Any (λ (entry : ℕ × Ptr). entry.1 ≡ x.1) (e ∷ es)) es (λ x any. any-there (λ (entry : ℕ × Ptr). entry.1 ≡ x.1) e es any) (entries-held es),
+)
 
 pub held : (founds : List Found) → AllByRecursion (λ (found : Found). AllByRecursion (λ (e : ℕ × Ptr). Holds founds e.1) found.blocks) founds
 held [] = tt
-held (found ∷ founds) =
-    (each-weaker (λ (x : ℕ × Ptr). Any (λ (entry : ℕ × Ptr). entry.1 ≡ x.1) found.blocks) (λ (x : ℕ × Ptr). Holds (found ∷ founds) x.1) found.blocks
-    (λ x any. any-here (λ (f : Found). Any (λ (entry : ℕ × Ptr). entry.1 ≡ x.1) f.blocks) found founds any) (entries-held found.blocks)
-    , each-weaker (λ (f : Found). AllByRecursion (λ (e : ℕ × Ptr). Holds founds e.1) f.blocks) (λ (f : Found). AllByRecursion (λ (e : ℕ × Ptr). Holds (found ∷ founds) e.1) f.blocks) founds
-    (λ f each. each-weaker (λ (e : ℕ × Ptr). Holds founds e.1) (λ (e : ℕ × Ptr). Holds (found ∷ founds) e.1) f.blocks (λ e any. any-there (λ (g : Found). Any (λ (entry : ℕ × Ptr). entry.1 ≡ e.1) g.blocks) found founds any) each) (held founds))
+held (found ∷ founds) = (
+  each-weaker (λ (x : ℕ × Ptr). Any (λ (entry : ℕ × Ptr). entry.1 ≡ x.1) found.blocks) (λ (x : ℕ × Ptr). Holds (found ∷ founds) x.1) found.blocks
+      (λ x any. any-here (λ (f : Found). Any (λ (entry : ℕ × Ptr). entry.1 ≡ x.1) f.blocks) found founds any) (entries-held found.blocks),
+  each-weaker (λ (f : Found). AllByRecursion (λ (e : ℕ × Ptr). Holds founds e.1) f.blocks) (λ (f : Found). AllByRecursion (λ (e : ℕ × Ptr). Holds (found ∷ founds) e.1) f.blocks) founds
+      (λ f each. each-weaker (λ (e : ℕ × Ptr). Holds founds e.1) (λ (e : ℕ × Ptr). Holds (found ∷ founds) e.1) f.blocks (λ e any. any-there (λ (g : Found). Any (λ (entry : ℕ × Ptr). entry.1 ≡ e.1) g.blocks) found founds any) each) (held founds),
+)
 
 -- ---- what was fetched
 
@@ -78,9 +81,10 @@ pub all-fetched : (ptrs : List Ptr) (fetched : List Fetched) → AreFetched ptrs
 all-fetched [] [] are = tt
 all-fetched [] (block ∷ blocks) are = absurd are
 all-fetched (p ∷ ptrs) [] are = absurd are
-all-fetched (p ∷ ptrs) (block ∷ blocks) are =
-    (ap (λ t. if t then true else is_fetched blocks p) (ap (λ q. is_same q p) are.0.is_from ∙ same-self p)
-    , each-weaker (λ (q : Ptr). is_fetched blocks q ≡ true) (λ (q : Ptr). is_fetched (block ∷ blocks) q ≡ true) ptrs (λ q is. fetched-more block blocks q is) (all-fetched ptrs blocks are.1))
+all-fetched (p ∷ ptrs) (block ∷ blocks) are = (
+  ap (λ t. if t then true else is_fetched blocks p) (ap (λ q. is_same q p) are.0.is_from ∙ same-self p),
+  each-weaker (λ (q : Ptr). is_fetched blocks q ≡ true) (λ (q : Ptr). is_fetched (block ∷ blocks) q ≡ true) ptrs (λ q is. fetched-more block blocks q is) (all-fetched ptrs blocks are.1),
+)
 
 -- what was fetched has few bytes
 pub fetched-short : (b : ℕ) (ptrs : List Ptr) (fetched : List Fetched) → AllByRecursion (λ (p : Ptr). p.len ≤ b) ptrs → AreFetched ptrs fetched → AllByRecursion (λ (f : Fetched). length f.bytes ≤ b) fetched

@@ -98,11 +98,11 @@ module _ (b : ℕ) (bytes : Ptr → List ℕ) (s : Drafts) (found : Found) (boun
   bound-changes call g first n d at are =
       bound-more s.drafts d (length s.blocks) (length (s.blocks ++ made_by b bytes s.blocks call d.changes)) (omega (arith, long)) bound
       (λ k change e. omega (arith, long, changes-bound s.drafts found g first (length s.blocks) n k change ((λ i. if nat_le (sym at i) k then slice_get (sym are i) (k - sym at i) else None) ∙ e))) where
-    long : length (s.blocks ++ made_by b bytes s.blocks call d.changes) ≡ length s.blocks + n
-    long =
-        length-append s.blocks (made_by b bytes s.blocks call d.changes)
-        ∙ ap (λ (m : ℕ). length s.blocks + m) (length-map (λ (change : Change). merged b call change.block (was_bytes bytes s.blocks change.was)) d.changes
-        ∙ ap length are ∙ length-map-range_with_len (change_at s.drafts found g first (length s.blocks)) first n)
+        long : length (s.blocks ++ made_by b bytes s.blocks call d.changes) ≡ length s.blocks + n
+        long =
+            length-append s.blocks (made_by b bytes s.blocks call d.changes)
+            ∙ ap (λ (m : ℕ). length s.blocks + m) (length-map (λ (change : Change). merged b call change.block (was_bytes bytes s.blocks change.was)) d.changes
+            ∙ ap length are ∙ length-map-range_with_len (change_at s.drafts found g first (length s.blocks)) first n)
 
   none-there : (t : Bool) (k : ℕ) (change : Change) → (if t then slice_get [] k else None) ≡ Some change → ⊥
   none-there true k change e = cc
@@ -148,18 +148,19 @@ ops-are b fetched bytes ptrs all stand [] [] s changed touched are = tt
 ops-are b fetched bytes ptrs all stand [] (found ∷ founds) s changed touched are = absurd (omega (arith, are.same_count))
 ops-are b fetched bytes ptrs all stand (call ∷ calls) [] s changed touched are = absurd (omega (arith, are.same_count))
 ops-are b fetched bytes ptrs all stand (call ∷ calls) (found ∷ founds) s changed touched are =
-    let behind = blocks-stay b (known fetched) calls founds (added b (known fetched) s call.call found) in
-    (op-is b fetched bytes ptrs all stand s changed found are.shows are.bound are.short.0 call.number call.call behind.0 are.updates.0
-    (sym (append_assoc s.blocks (made_by b (known fetched) s.blocks call.call (draft_of b s call.call found).changes) behind.0) ∙ (behind.1 ∙ are.blocks))
-    (subst (AllByRecursion (IsKnown fetched)) (wanted-same b s found touched are.are_touched call.call)
-    (each-front (IsKnown fetched) (wanted_of b call.call found touched) (wanted_behind b calls founds (λ g k. touched g k || touches b call.call found g k)) are.wants))
-    , ops-are b fetched bytes ptrs all stand calls founds (added b (known fetched) s call.call found) (after_op b changed (op_made ptrs call.number call.call (draft_of b s call.call found))) (λ g k. touched g k || touches b call.call found g k) (record {
-      same_count = omega (arith, are.same_count);
-      updates = are.updates.1;
-      short = are.short.1;
-      are_touched = touched-more b s found touched are.are_touched call.call;
-      shows = shows-more b ptrs call.number s changed found call.call are.shows;
-      bound = bound-added b (known fetched) s found are.bound call.call;
-      wants = each-back (IsKnown fetched) (wanted_of b call.call found touched) (wanted_behind b calls founds (λ g k. touched g k || touches b call.call found g k)) are.wants;
-      blocks = are.blocks;
-    }))
+    let behind = blocks-stay b (known fetched) calls founds (added b (known fetched) s call.call found) in (
+      op-is b fetched bytes ptrs all stand s changed found are.shows are.bound are.short.0 call.number call.call behind.0 are.updates.0
+          (sym (append_assoc s.blocks (made_by b (known fetched) s.blocks call.call (draft_of b s call.call found).changes) behind.0) ∙ (behind.1 ∙ are.blocks))
+          (subst (AllByRecursion (IsKnown fetched)) (wanted-same b s found touched are.are_touched call.call)
+          (each-front (IsKnown fetched) (wanted_of b call.call found touched) (wanted_behind b calls founds (λ g k. touched g k || touches b call.call found g k)) are.wants)),
+      ops-are b fetched bytes ptrs all stand calls founds (added b (known fetched) s call.call found) (after_op b changed (op_made ptrs call.number call.call (draft_of b s call.call found))) (λ g k. touched g k || touches b call.call found g k) (record {
+        same_count = omega (arith, are.same_count);
+        updates = are.updates.1;
+        short = are.short.1;
+        are_touched = touched-more b s found touched are.are_touched call.call;
+        shows = shows-more b ptrs call.number s changed found call.call are.shows;
+        bound = bound-added b (known fetched) s found are.bound call.call;
+        wants = each-back (IsKnown fetched) (wanted_of b call.call found touched) (wanted_behind b calls founds (λ g k. touched g k || touches b call.call found g k)) are.wants;
+        blocks = are.blocks;
+      }),
+    )

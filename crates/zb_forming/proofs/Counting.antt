@@ -102,21 +102,21 @@ ptrs-range b bytes ptrs (call ∷ calls) (found ∷ founds) s n same e =
     (λ i. op-ptrs b ptrs call.number s call.call found i ++ ptrs-range b bytes ptrs calls founds (added b bytes s call.call found) (n - count_of b s call.call found) (omega (arith, same)) rest i)
     ∙ map-range_append (at ptrs) (length s.blocks) (length (added b bytes s call.call found).blocks) (count_of b s call.call found) (n - count_of b s call.call found) (length-added b bytes s call.call found)
     ∙ ap (λ (m : ℕ). map (at ptrs) (range_with_len (length s.blocks) m)) back where
-  fits : count_of b s call.call found ≤ n
-  fits = omega (arith, e, length-added b bytes s call.call found, more-blocks b bytes calls founds (added b bytes s call.call found))
+      fits : count_of b s call.call found ≤ n
+      fits = omega (arith, e, length-added b bytes s call.call found, more-blocks b bytes calls founds (added b bytes s call.call found))
 
-  back : count_of b s call.call found + (n - count_of b s call.call found) ≡ n
-  back = omega (arith, fits)
+      back : count_of b s call.call found + (n - count_of b s call.call found) ≡ n
+      back = omega (arith, fits)
 
-  rest : length (added b bytes s call.call found).blocks + (n - count_of b s call.call found) ≡ length (drafted b bytes calls founds (added b bytes s call.call found)).blocks
-  rest = omega (arith, e, fits, length-added b bytes s call.call found)
+      rest : length (added b bytes s call.call found).blocks + (n - count_of b s call.call found) ≡ length (drafted b bytes calls founds (added b bytes s call.call found)).blocks
+      rest = omega (arith, e, fits, length-added b bytes s call.call found)
 
 all-at : (front ptrs all : List Ptr) → front ++ ptrs ≡ all → map (at all) (range_with_len (length front) (length ptrs)) ≡ ptrs
 all-at front [] all e = refl
 all-at front (p ∷ ptrs) all e =
     (λ i. first i ∷ (ap (λ (n : ℕ). map (at all) (range_with_len n (length ptrs))) (sym (length-append front (p ∷ []))) ∙ all-at (front ++ p ∷ []) ptrs all (append_assoc front (p ∷ []) ptrs ∙ e)) i) where
-  first : at all (length front) ≡ p
-  first = ap (λ xs. at xs (length front)) (sym e) ∙ ap or_no_ptr (get-behind front (p ∷ ptrs) (length front) 0 (omega arith))
+      first : at all (length front) ≡ p
+      first = ap (λ xs. at xs (length front)) (sym e) ∙ ap or_no_ptr (get-behind front (p ∷ ptrs) (length front) 0 (omega arith))
 
 -- the new pointers of the operations are those of the new blocks
 pub ptrs-are : (b : ℕ) (bytes : Ptr → List ℕ) (ptrs : List Ptr) (calls : List Numbered) (founds : List Found) (s : Drafts) → s.blocks ≡ [] → length calls ≡ length founds

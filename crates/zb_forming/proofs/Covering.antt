@@ -3,9 +3,9 @@ use Rattle.std.proofs.Common.{◌≡◌, ℕ, zero, suc, ◌+◌, ◌-◌, ◌*�
 use Rattle.std.specs.Prelude.{if◌then◌else◌, ◌==◌, ◌&&◌, nat_lt, nat_le, slice_index, Some, None}
 use Rattle.std.specs.List.{range_with_len}
 use Rattle.std.proofs.lemmas.List.FromFn.{length-map-range_with_len}
-use Rattle.std.proofs.lemmas.Bool.{cases_Bool, cases_lt, leb-false}
+use Rattle.std.proofs.lemmas.Bool.{cases_Bool, cases_lt, leb-false, leb-true}
 use Rattle.std.proofs.lemmas.Bool.Decides.{nat_tests}
-use Rattle.std.proofs.Math.Nat.{mul-le-mul_right, div-mul-le_self}
+use Rattle.std.proofs.Math.Nat.{mul-le-mul_right, mul-le-mul_left, div-mul-le_self}
 use Rattle.zb_types.specs.declared.ids.Fid.{Fid}
 use Rattle.zb_types.specs.declared.calls.Call.TheVariants.{Write}
 use Rattle.zb_types.specs.Apply.{max_file}
@@ -13,6 +13,7 @@ use Rattle.zb_types.specs.Bytes.{first_bytes, byte_over, written, resized}
 use Rattle.zb_basis.specs.declared.asks.Ask.{Ask}
 use Rattle.zb_basis.specs.Looking.{ask_range, ask_to, ask_of}
 use Rattle.zb_basis.specs.Merging.{part_in, written_block, cut_block}
+use Rattle.zb_forming.specs.Drafts.{write_count}
 use Rattle.zb_forming.proofs.Runs.{map-range_same}
 
 over-same : (old part : List ℕ) (i : ℕ) → i < length part → byte_over [] 0 part (0 + i) ≡ byte_over old 0 part (0 + i)
@@ -32,8 +33,8 @@ block-covered b k offset old text low high fits =
     ap (λ (at : ℕ). written [] at (part_in b k offset text)) none
     ∙ covered old (part_in b k offset text) (omega (arith, length-part b k offset text, low, high, fits))
     ∙ sym (ap (λ (at : ℕ). written old at (part_in b k offset text)) none) where
-  none : offset - k * b ≡ 0
-  none = omega (arith, low)
+      none : offset - k * b ≡ 0
+      none = omega (arith, low)
 
 length-written : (b k offset : ℕ) (old text : List ℕ) → length (written_block b k old offset text) ≡ max (length old) (offset - k * b + length (part_in b k offset text))
 length-written b k offset old text = length-map-range_with_len (byte_over old (offset - k * b) (part_in b k offset text)) 0 (max (length old) (offset - k * b + length (part_in b k offset text)))
@@ -83,3 +84,16 @@ asked-facts b fid offset text k some fits low high =
     let e : ask_of b (Write fid offset text) ≡ range_if (nat_le (offset + length text) offset) b fid offset (offset + length text) = ask-write b fid offset text fits ∙ ask-range b fid offset (offset + length text) (nat_le (offset + length text) offset) refl in
     range-facts b fid offset (offset + length text) k (nat_le (offset + length text) offset) some refl
     (subst (λ (ask : Ask). ask.first ≤ k) e low) (subst (λ (ask : Ask). k < ask.first + ask.count) e high)
+
+range-few : (b : ℕ) (fid : Fid) (from to : ℕ) (t : Bool) → 64 ≤ b → to ≤ max_file → nat_le to from ≡ t → (range_if t b fid from to).count ≤ 1048576
+range-few b fid from to true low high is = omega arith
+range-few b fid from to false low high is =
+    omega (arith, mul-le-mul_left {m = 64} {n = b} ((to - 1) / b) low, div-mul-le_self (to - 1) b, leb-false to from is, high)
+
+-- a write touches few blocks
+pub write-count : (b : ℕ) (fid : Fid) (offset : ℕ) (text : List ℕ) (done : Bool) → 64 ≤ b → (done ≡ true → nat_le (offset + length text) max_file ≡ true)
+    → write_count done (ask_of b (Write fid offset text)).count ≤ 1048576
+write-count b fid offset text false low fits = omega arith
+write-count b fid offset text true low fits =
+    let e : ask_of b (Write fid offset text) ≡ range_if (nat_le (offset + length text) offset) b fid offset (offset + length text) = ask-write b fid offset text (fits refl) ∙ ask-range b fid offset (offset + length text) (nat_le (offset + length text) offset) refl in
+    subst (λ (ask : Ask). ask.count ≤ 1048576) (sym e) (range-few b fid offset (offset + length text) (nat_le (offset + length text) offset) low (leb-true (offset + length text) max_file (fits refl)) refl)

@@ -9,3 +9,4 @@ pub mod Shown
 pub mod Operating
 pub mod Batching
 pub mod Counting
+pub mod Spelled

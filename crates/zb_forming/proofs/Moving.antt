@@ -91,9 +91,9 @@ pub change-some : (ds : List Draft) (found : Found) (g first start n k : ℕ)
     → is_some (if nat_le first k then slice_get (changes_of ds found g first start n) (k - first) else None) ≡ (nat_le first k && nat_lt k (first + n))
 change-some ds found g first start n k = elim (cases_lt k (first + n)) as (λ _. is_some (if nat_le first k then slice_get (changes_of ds found g first start n) (k - first) else None) ≡ (nat_le first k && nat_lt k (first + n))) [
   | inl high ↦ elim (cases_lt k first) as (λ _. is_some (if nat_le first k then slice_get (changes_of ds found g first start n) (k - first) else None) ≡ (nat_le first k && nat_lt k (first + n))) [
-      | inl l ↦ ap is_some (change-none ds found g first start n k (λ low _. omega (arith, low, l))) ∙ grind (arith, nat_tests)
-      | inr low ↦ ap is_some (change-there ds found g first start n k low high) ∙ grind (arith, nat_tests)
-    ]
+    | inl l ↦ ap is_some (change-none ds found g first start n k (λ low _. omega (arith, low, l))) ∙ grind (arith, nat_tests)
+    | inr low ↦ ap is_some (change-there ds found g first start n k low high) ∙ grind (arith, nat_tests)
+  ]
   | inr past ↦ ap is_some (change-none ds found g first start n k (λ low high. omega (arith, high, past))) ∙ grind (arith, nat_tests)
 ]
 

@@ -117,8 +117,8 @@ module _ (b : ℕ) (fetched : List Fetched) (bytes : Ptr → List ℕ) (ptrs : L
         ∙ get-front (made_by b (known fetched) s.blocks call (changes_of s.drafts found g first (length s.blocks) n)) rest (k - first) (h k)
         (ap (λ xs. slice_get xs (k - first)) (map-map_range (λ (change : Change). merged b call change.block (was_bytes (known fetched) s.blocks change.was)) (change_at s.drafts found g first (length s.blocks)) first n)
         ∙ get-range h first n (k - first) k (omega (arith, low, high)) (omega (arith, low))))) where
-      h : ℕ → List ℕ
-      h x = merged b call x (was_bytes (known fetched) s.blocks (stands s.drafts found g x))
+          h : ℕ → List ℕ
+          h x = merged b call x (was_bytes (known fetched) s.blocks (stands s.drafts found g x))
 
     new-place : (g k place : ℕ) → stands s.drafts found g k ≡ New place → place < length s.blocks
     new-place g k place e = stands-new s.drafts found g k place (length s.blocks) bound e
@@ -175,15 +175,19 @@ module _ (b : ℕ) (fetched : List Fetched) (bytes : Ptr → List ℕ) (ptrs : L
         × IsDelta bytes fid version (n / b) (stands_now changed found fid (n / b)) (cut_block b (n / b) (block_bytes bytes (stands_now changed found fid (n / b))) n) delta)
         (deltas_made ptrs fid version (first_only (changes_of s.drafts found fid.0 (n / b) (length s.blocks) (if c then 1 else 0))) ≡ [])
     cut-delta fid n rest false is front wants version = refl
-    cut-delta fid n rest true is front wants version = (delta_of ptrs fid version (change_at s.drafts found fid.0 (n / b) (length s.blocks) (n / b)), refl, record {
-      now = or_no_ptr (slice_get ptrs (length s.blocks + (n / b - n / b)));
-      is = ap (λ was. Update (record { fid = fid; version = version; block = n / b; was = was; now = or_no_ptr (slice_get ptrs (length s.blocks + (n / b - n / b))) })) (sym (stands-same ptrs changed s.drafts found fid (n / b) shows));
-      merged =
-          made-there (Truncate fid n) fid.0 (n / b) 1 (n / b) rest (omega arith) (omega arith) front
-          ∙ cut-same s.blocks (made_by b (known fetched) s.blocks (Truncate fid n) (changes_of s.drafts found fid.0 (n / b) (length s.blocks) 1) ++ rest) n (n / b) (stands s.drafts found fid.0 (n / b)) front
-          (λ place e. new-place fid.0 (n / b) place e) (λ p e. cut-wants p e)
-          ∙ ap (λ was. cut_block b (n / b) (block_bytes bytes was) n) (sym (stands-same ptrs changed s.drafts found fid (n / b) shows));
-    }) where
+    cut-delta fid n rest true is front wants version = (
+      delta_of ptrs fid version (change_at s.drafts found fid.0 (n / b) (length s.blocks) (n / b)),
+      refl,
+      record {
+        now = or_no_ptr (slice_get ptrs (length s.blocks + (n / b - n / b)));
+        is = ap (λ was. Update (record { fid = fid; version = version; block = n / b; was = was; now = or_no_ptr (slice_get ptrs (length s.blocks + (n / b - n / b))) })) (sym (stands-same ptrs changed s.drafts found fid (n / b) shows));
+        merged =
+            made-there (Truncate fid n) fid.0 (n / b) 1 (n / b) rest (omega arith) (omega arith) front
+            ∙ cut-same s.blocks (made_by b (known fetched) s.blocks (Truncate fid n) (changes_of s.drafts found fid.0 (n / b) (length s.blocks) 1) ++ rest) n (n / b) (stands s.drafts found fid.0 (n / b)) front
+            (λ place e. new-place fid.0 (n / b) place e) (λ p e. cut-wants p e)
+            ∙ ap (λ was. cut_block b (n / b) (block_bytes bytes was) n) (sym (stands-same ptrs changed s.drafts found fid (n / b) shows));
+      },
+    ) where
       cut-wants : (p : Ptr) → stands s.drafts found fid.0 (n / b) ≡ Stored p → IsKnown fetched p
       cut-wants p e = (subst (λ w. AllByRecursion (IsKnown fetched) (found_where w)) e (each-front (IsKnown fetched) (found_where (stands s.drafts found fid.0 (n / b))) [] wants)).0
 
@@ -209,18 +213,29 @@ module _ (b : ℕ) (fetched : List Fetched) (bytes : Ptr → List ℕ) (ptrs : L
         → s.blocks ++ (made_by b (known fetched) s.blocks call (draft_of b s call found).changes ++ rest) ≡ all
         → AllByRecursion (IsKnown fetched) (wanted_changes b call (draft_of b s call found).changes)
         → OpIs b bytes changed number call found (op_made ptrs number call (draft_of b s call found))
-    op-is number (Write fid offset text) rest update front wants = (refl, refl, version-same ptrs changed s.drafts found fid shows, refl, refl,
-        subst (λ t. MatchBool t
-        (WriteDeltas b bytes changed found fid (version_in s.drafts found fid.0) offset text (deltas_made ptrs fid (version_in s.drafts found fid.0) (draft_of b s (Write fid offset text) found).changes))
-        (deltas_made ptrs fid (version_in s.drafts found fid.0) (draft_of b s (Write fid offset text) found).changes ≡ []))
-        (sym (done-same s.drafts found fid.0 (offset + length text)))
-        (write-op fid offset text rest (is_done found.version (offset + length text)) front wants (version_in s.drafts found fid.0)))
-    op-is number (Truncate fid n) rest update front wants = (refl, refl, version-same ptrs changed s.drafts found fid shows, refl,
-        subst (λ t. MatchBool t
-        (CutDeltas b bytes fid (version_in s.drafts found fid.0) n (stands_now changed found fid (n / b)) (deltas_made ptrs fid (version_in s.drafts found fid.0) (first_only (draft_of b s (Truncate fid n) found).changes)))
-        (deltas_made ptrs fid (version_in s.drafts found fid.0) (first_only (draft_of b s (Truncate fid n) found).changes) ≡ []))
-        (sym (done-same s.drafts found fid.0 n))
-        (cut-op fid n rest (is_done found.version n) front wants (version_in s.drafts found fid.0)))
+    op-is number (Write fid offset text) rest update front wants = (
+      refl,
+      refl,
+      version-same ptrs changed s.drafts found fid shows,
+      refl,
+      refl,
+      subst (λ t. MatchBool t
+          (WriteDeltas b bytes changed found fid (version_in s.drafts found fid.0) offset text (deltas_made ptrs fid (version_in s.drafts found fid.0) (draft_of b s (Write fid offset text) found).changes))
+          (deltas_made ptrs fid (version_in s.drafts found fid.0) (draft_of b s (Write fid offset text) found).changes ≡ []))
+          (sym (done-same s.drafts found fid.0 (offset + length text)))
+          (write-op fid offset text rest (is_done found.version (offset + length text)) front wants (version_in s.drafts found fid.0)),
+    )
+    op-is number (Truncate fid n) rest update front wants = (
+      refl,
+      refl,
+      version-same ptrs changed s.drafts found fid shows,
+      refl,
+      subst (λ t. MatchBool t
+          (CutDeltas b bytes fid (version_in s.drafts found fid.0) n (stands_now changed found fid (n / b)) (deltas_made ptrs fid (version_in s.drafts found fid.0) (first_only (draft_of b s (Truncate fid n) found).changes)))
+          (deltas_made ptrs fid (version_in s.drafts found fid.0) (first_only (draft_of b s (Truncate fid n) found).changes) ≡ []))
+          (sym (done-same s.drafts found fid.0 n))
+          (cut-op fid n rest (is_done found.version n) front wants (version_in s.drafts found fid.0)),
+    )
     op-is number Sync rest update front wants = refl
     op-is number (Create path) rest update front wants = (refl, refl, refl)
     op-is number (Mkdir path) rest update front wants = (refl, refl, refl)

@@ -101,8 +101,8 @@ map-range_append f a c zero m e = ap (λ (i : ℕ). map f (range_with_len i m)) 
 map-range_append f a c (suc n) m e =
     ap (λ rest. f a ∷ rest) (map-range_append f (a + 1) c n m (omega (arith, e)))
     ∙ ap (λ (i : ℕ). map f (range_with_len a i)) (step (n + m) (suc n + m) (omega arith)) where
-  step : (i j : ℕ) → suc i ≡ j → suc i ≡ j
-  step i j e = e
+      step : (i j : ℕ) → suc i ≡ j → suc i ≡ j
+      step i j e = e
 
 pub zip-range : {A : Type 0} (R : ℕ → A → Type 0) (h : ℕ → A) (a n : ℕ) → ((x : ℕ) → a ≤ x → x < a + n → R x (h x)) → AllZip R (range_with_len a n) (map h (range_with_len a n))
 zip-range R h a zero all = tt

@@ -84,15 +84,15 @@ new-changes ptrs fid version ds found g first start n k =
     ∙ elim (cases_lt k first) as (λ _. new_of k (map h (range_with_len first n)) ≡ option_map (ptr_at ptrs) (if nat_le first k then slice_get (changes_of ds found g first start n) (k - first) else None)) [
       | inl l ↦ none (λ low high. omega (arith, low, l))
       | inr low ↦ elim (cases_lt k (first + n)) as (λ _. new_of k (map h (range_with_len first n)) ≡ option_map (ptr_at ptrs) (if nat_le first k then slice_get (changes_of ds found g first start n) (k - first) else None)) [
-          | inl high ↦ new-in h (λ x. refl) k first n low high ∙ sym (ap (option_map (ptr_at ptrs)) (change-there ds found g first start n k low high))
-          | inr past ↦ none (λ low high. omega (arith, high, past))
-        ]
+        | inl high ↦ new-in h (λ x. refl) k first n low high ∙ sym (ap (option_map (ptr_at ptrs)) (change-there ds found g first start n k low high))
+        | inr past ↦ none (λ low high. omega (arith, high, past))
+      ]
     ] where
-  h : ℕ → Delta
-  h x = delta_of ptrs fid version (change_at ds found g first start x)
+      h : ℕ → Delta
+      h x = delta_of ptrs fid version (change_at ds found g first start x)
 
-  none : (first ≤ k → k < first + n → ⊥) → new_of k (map h (range_with_len first n)) ≡ option_map (ptr_at ptrs) (if nat_le first k then slice_get (changes_of ds found g first start n) (k - first) else None)
-  none out = new-out h (λ x. refl) k first n out ∙ sym (ap (option_map (ptr_at ptrs)) (change-none ds found g first start n k out))
+      none : (first ≤ k → k < first + n → ⊥) → new_of k (map h (range_with_len first n)) ≡ option_map (ptr_at ptrs) (if nat_le first k then slice_get (changes_of ds found g first start n) (k - first) else None)
+      none out = new-out h (λ x. refl) k first n out ∙ sym (ap (option_map (ptr_at ptrs)) (change-none ds found g first start n k out))
 
 -- ---- one more operation
 
@@ -144,8 +144,8 @@ shows-done ptrs changed ds d deltas shows done new = record {
   rose g =
       (λ i. if eq-swap g d.fid.0 i then shows.rose g i + 1 else shows.rose g i)
       ∙ ap (λ t. if t && d.fid.0 == g then rose_in ds g + 1 else rose_in ds g) (sym done) where
-    eq-swap : (a b : ℕ) → a == b ≡ b == a
-    eq-swap a b = grind (arith, nat_tests)
+        eq-swap : (a b : ℕ) → a == b ≡ b == a
+        eq-swap a b = grind (arith, nat_tests)
 
   moved : (g k : ℕ) → (if g == d.fid.0 then or_before (new_of k deltas) (if is_left d.left k then Some None else changed.moved d.fid.0 k) else changed.moved g k) ≡ option_map (ptr_of ptrs) (later (moved_by d g k) (moved_in ds g k))
   moved g k = elim (cases_eq g d.fid.0) as (λ _. (if g == d.fid.0 then or_before (new_of k deltas) (if is_left d.left k then Some None else changed.moved d.fid.0 k) else changed.moved g k) ≡ option_map (ptr_of ptrs) (later (moved_by d g k) (moved_in ds g k))) [
@@ -191,10 +191,10 @@ pub bound-more : (ds : List Draft) (d : Draft) (n m : ℕ) → n ≤ m → Bound
     → Bounded (ds ++ d ∷ []) m
 bound-more ds d n m le bound new g k place e =
     later-bound (moved_by d g k) (moved_in ds g k) n m place le one (bound g k place) (sym (moved-more ds d g k) ∙ e) where
-  one : moved_by d g k ≡ Some (New place) → place < m
-  one is =
-      let p = place-bound (if nat_le d.first k then slice_get d.changes (k - d.first) else None) (is_left d.left k) place (if-place (d.done && d.fid.0 == g) (place_of (if nat_le d.first k then slice_get d.changes (k - d.first) else None) (hole_if (is_left d.left k))) place is) in
-      subst (λ (x : ℕ). x < m) p.2 (new k p.0 p.1)
+      one : moved_by d g k ≡ Some (New place) → place < m
+      one is =
+          let p = place-bound (if nat_le d.first k then slice_get d.changes (k - d.first) else None) (is_left d.left k) place (if-place (d.done && d.fid.0 == g) (place_of (if nat_le d.first k then slice_get d.changes (k - d.first) else None) (hole_if (is_left d.left k))) place is) in
+          subst (λ (x : ℕ). x < m) p.2 (new k p.0 p.1)
 
 -- the places of some changes
 pub changes-bound : (ds : List Draft) (found : Found) (g first start n k : ℕ) (change : Change)
@@ -202,9 +202,9 @@ pub changes-bound : (ds : List Draft) (found : Found) (g first start n k : ℕ) 
 changes-bound ds found g first start n k change e = elim (cases_lt k first) [
   | inl l ↦ absurd (none (change-none ds found g first start n k (λ low high. omega (arith, low, l))))
   | inr low ↦ elim (cases_lt k (first + n)) [
-      | inl high ↦ omega (arith, there low high)
-      | inr past ↦ absurd (none (change-none ds found g first start n k (λ low high. omega (arith, high, past))))
-    ]
+    | inl high ↦ omega (arith, there low high)
+    | inr past ↦ absurd (none (change-none ds found g first start n k (λ low high. omega (arith, high, past))))
+  ]
 ] where
   none : (if nat_le first k then slice_get (changes_of ds found g first start n) (k - first) else None) ≡ None → ⊥
   none is = cc

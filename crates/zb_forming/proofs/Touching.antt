@@ -55,18 +55,18 @@ cut-test true done c l left g f q k same = sym (or-true ((done && f == g) && ((n
 cut-test false false c l left g f q k same = and-false (g == f)
 cut-test false true c l left g f q k same =
     cut-inner c l left g f q k (λ p r. same p r refl) ∙ ap (λ t. f == g && (t || left)) (sym (one-test c q k)) ∙ sym (or-false (f == g && ((nat_le q k && nat_lt k (q + (if c then 1 else 0))) || left))) where
-  cut-inner : (c l left : Bool) (g f q k : ℕ) → (g ≡ f → k ≡ q → c ≡ l) → (g == f && (left || (k == q && l))) ≡ (f == g && ((k == q && c) || left))
-  cut-inner c l left g f q k same = elim (cases_eq g f) as (λ _. (g == f && (left || (k == q && l))) ≡ (f == g && ((k == q && c) || left))) [
-    | inl p ↦
-        (λ i. eq-swap g f i && or-swap left (k == q && l) i)
-        ∙ ap (λ t. f == g && (t || left)) (inner_k p)
-    | inr other ↦ ap (λ t. t && (left || (k == q && l))) (ne_eqb g f other) ∙ sym (ap (λ t. t && ((k == q && c) || left)) (eq-swap f g ∙ ne_eqb g f other))
-  ] where
-    inner_k : g ≡ f → (k == q && l) ≡ (k == q && c)
-    inner_k p = elim (cases_eq k q) as (λ _. (k == q && l) ≡ (k == q && c)) [
-      | inl r ↦ ap (λ t. k == q && t) (sym (same p r))
-      | inr other ↦ ap (λ t. t && l) (ne_eqb k q other) ∙ sym (ap (λ t. t && c) (ne_eqb k q other))
-    ]
+      cut-inner : (c l left : Bool) (g f q k : ℕ) → (g ≡ f → k ≡ q → c ≡ l) → (g == f && (left || (k == q && l))) ≡ (f == g && ((k == q && c) || left))
+      cut-inner c l left g f q k same = elim (cases_eq g f) as (λ _. (g == f && (left || (k == q && l))) ≡ (f == g && ((k == q && c) || left))) [
+        | inl p ↦
+            (λ i. eq-swap g f i && or-swap left (k == q && l) i)
+            ∙ ap (λ t. f == g && (t || left)) (inner_k p)
+        | inr other ↦ ap (λ t. t && (left || (k == q && l))) (ne_eqb g f other) ∙ sym (ap (λ t. t && ((k == q && c) || left)) (eq-swap f g ∙ ne_eqb g f other))
+      ] where
+        inner_k : g ≡ f → (k == q && l) ≡ (k == q && c)
+        inner_k p = elim (cases_eq k q) as (λ _. (k == q && l) ≡ (k == q && c)) [
+          | inl r ↦ ap (λ t. k == q && t) (sym (same p r))
+          | inr other ↦ ap (λ t. t && l) (ne_eqb k q other) ∙ sym (ap (λ t. t && c) (ne_eqb k q other))
+        ]
 
 longer-found : (b n : ℕ) (blocks : List (List ℕ)) (o : Option Ptr) → is_cut b n (length_at blocks (was_found o)) ≡ is_longer b n o
 longer-found b n blocks None = grind (arith, nat_tests)
@@ -107,8 +107,8 @@ module _ (b : ℕ) (s : Drafts) (found : Found) (touched : ℕ → ℕ → Bool)
   same-longer fid n g k p r t =
       ap (λ o. is_cut b n (length_at s.blocks (or_stood o (was_found (look (n / b) found.blocks))))) (none-of (moved_in s.drafts fid.0 (n / b)) none)
       ∙ longer-found b n s.blocks (look (n / b) found.blocks) ∙ ap (λ (i : ℕ). is_longer b n (look i found.blocks)) (sym r) where
-    none : is_some (moved_in s.drafts fid.0 (n / b)) ≡ false
-    none = sym ((λ i. is_some (moved_in s.drafts (p i) (r i)))) ∙ (sym (is g k) ∙ t)
+        none : is_some (moved_in s.drafts fid.0 (n / b)) ≡ false
+        none = sym ((λ i. is_some (moved_in s.drafts (p i) (r i)))) ∙ (sym (is g k) ∙ t)
 
   touched-cut : (fid : Fid) (n : ℕ) → Touched (λ g k. touched g k || touches b (Truncate fid n) found g k) (s.drafts ++ draft_of b s (Truncate fid n) found ∷ [])
   touched-cut fid n g k =

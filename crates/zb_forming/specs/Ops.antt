@@ -1,10 +1,11 @@
 -- The operations of a batch once its blocks have addresses.
-use Rattle.std.specs.Prelude.{ℕ, ◌^◌, ◌-◌, min, List, [], ◌∷◌, length, map, slice_get, Option, Some, None}
+use Rattle.std.specs.Prelude.{ℕ, ◌^◌, ◌-◌, min, List, [], ◌∷◌, length, map, slice_get, Option, Some, None, IsTrue}
 use Rattle.zb_types.specs.declared.ids.Fid.{Fid}
 use Rattle.zb_types.specs.declared.ids.LogId.{LogId}
 use Rattle.zb_types.specs.declared.ids.Ptr.{Ptr}
 use Rattle.zb_types.specs.declared.calls.Call.{Call}
 use Rattle.zb_types.specs.declared.calls.Call.TheVariants.{Create, Mkdir, Remove, Rename, Write, Truncate, Sync, Read, List as ListOf, Stat, Find}
+use Rattle.zb_types.specs.Paths.{is_path}
 use Rattle.zb_delta.specs.declared.delta.Delta.{Delta}
 use Rattle.zb_delta.specs.declared.delta.Delta.TheVariants.{Update}
 use Rattle.zb_batch.specs.declared.batch.Op.{Op}
@@ -60,3 +61,17 @@ ops_made ptrs calls drafts = []
 -- the batch of some calls
 abbrev pub batch_made : LogId → ℕ → List Ptr → List Numbered → List Draft → Batch
 batch_made log number ptrs calls drafts = record { log = log; number = number; ops = ops_made ptrs calls drafts }
+
+-- the paths of a call are paths
+abbrev pub HasPaths : Call → Type 0
+HasPaths (Create path) = IsTrue (is_path path)
+HasPaths (Mkdir path) = IsTrue (is_path path)
+HasPaths (Remove path) = IsTrue (is_path path)
+HasPaths (Rename from to) = IsTrue (is_path from) × IsTrue (is_path to)
+HasPaths (Write fid offset text) = Unit {0}
+HasPaths (Truncate fid n) = Unit {0}
+HasPaths Sync = Unit {0}
+HasPaths (Read fid offset len) = Unit {0}
+HasPaths (ListOf path) = Unit {0}
+HasPaths (Stat path) = Unit {0}
+HasPaths (Find path) = Unit {0}

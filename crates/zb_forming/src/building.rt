@@ -3,7 +3,7 @@ ghost use Rattle.std.specs.List.{AllByRecursion};
 ghost use Rattle.zb_types.specs.Apply.{is_update};
 ghost use Rattle.zb_batch.specs.Batches.{IsShaped};
 ghost use Rattle.zb_basis.specs.Operations.{short_length};
-ghost use Rattle.zb_forming.specs.Ops.{batch_made, delta_of, deltas_made, first_only, op_made, ops_made, or_no_ptr, ptr_of};
+ghost use Rattle.zb_forming.specs.Ops.{batch_made, delta_of, deltas_made, first_only, op_made, ops_made, or_no_ptr, ptr_of, HasPaths};
 
 use crate::draft::{Change, Draft, Was};
 use std::alloc::Global;
@@ -130,6 +130,33 @@ fn ops_made(
     let mut ops = ops;
     ops.push(op_made(alloc, ptrs, call, draft)?)?;
     ops_made(alloc, ptrs, calls, drafts, ops)
+}
+
+/// Says of the paths of a call that they are paths; it does nothing.
+fn know_paths(call: &Call)
+    ensures { HasPaths call.now }
+{
+    match call {
+        Call::Create(path) | Call::Mkdir(path) | Call::Remove(path) => {
+            let _ = path.slice();
+        }
+        Call::Rename(from, to) => {
+            let _ = from.slice();
+            let _ = to.slice();
+        }
+        _ => {}
+    }
+}
+
+/// Says of the paths of some calls that they are paths; it does nothing.
+pub(crate) fn know_all_paths(calls: &[Numbered])
+    ensures { AllByRecursion (λ call. HasPaths call.call) calls.now }
+{
+    let Some((call, others)) = calls.split_first() else {
+        return;
+    };
+    know_paths(&call.call);
+    know_all_paths(others);
 }
 
 /// The batch of some calls, where its new blocks have these pointers.

@@ -1,4 +1,5 @@
-ghost use Rattle.std.specs.Prelude.{◌≡◌, ◌+◌, ◌<◌, ◌≤◌, [], true, IfOk, IfSome, IsErrOf, All, length, map};
+ghost use Rattle.std.specs.Prelude.{◌≡◌, ◌+◌, ◌<◌, ◌≤◌, [], true, IfOk, IfSome, IsErrOf, All, List, length, map};
+ghost use Rattle.zb_types.specs.declared.ids.Ptr.{Ptr as PtrOf};
 ghost use Rattle.std.specs.List.{AllByRecursion};
 ghost use Rattle.zb_types.specs.Apply.{is_update};
 ghost use Rattle.zb_log.specs.declared.placed.LogFault.TheVariants.{Worn};
@@ -16,12 +17,12 @@ ghost use Rattle.zb_forming.specs.Drafts.{IsOrdered};
 ghost use Rattle.zb_forming.specs.Ops.{batch_made};
 ghost use Rattle.zb_forming.specs.Sealing.{drafts_of, IsGiven, IsMade};
 
-use crate::building::{batch_made, short_length};
+use crate::building::{batch_made, know_all_paths, short_length};
 use crate::draft::Drafts;
 use crate::drafting::{drafted, no_drafts};
 use std::alloc::Global;
 use zb_basis::{Basis, Formed, Numbered, Sealed, Setting, writers_out};
-use zb_batch::Batch;
+use zb_batch::{Batch, batches_have_their_length};
 use zb_log::{LogBuf, LogFault, Placed};
 use zb_stripe::WritePlan;
 use zb_types::{ByteList, Class, Mem, Ptr};
@@ -93,8 +94,15 @@ fn sealed(
     })
 }
 
-/// How many bytes the meta part of the batch takes.
-fn meta_of(alloc: Global, to: Setting, calls: &[Numbered], s: &Drafts) -> Mem<u32> {
+/// How many bytes the meta part of the batch takes, whatever its pointers are.
+fn meta_of(alloc: Global, to: Setting, calls: &[Numbered], s: &Drafts, basis: &Basis) -> Mem<u32>
+    requires given { IsGiven to.geo.block (room_of to.geo.servers to.geo.fragment) calls.now basis.now }
+    requires drafts { s.now ≡ drafts_of to.geo.block calls.now basis.now }
+    ensures length { IfOk result (λ meta. (ptrs : List PtrOf) → meta ≡ meta_length (batch_made to.log to.number ptrs calls.now s.now.drafts)) }
+    ensures spelled { (ptrs : List PtrOf) → IsSpellable (batch_made to.log to.number ptrs calls.now s.now.drafts) }
+{
+    know_all_paths(calls);
+    batches_have_their_length();
     Ok(batch_of(alloc, to, calls, s, &[])?.meta_len())
 }
 
@@ -116,7 +124,7 @@ fn form_next(
     ensures worn { IsErrOf result Worn → IsTooFar to.geo.block log.now to.number calls.now basis.now }
 {
     let s = drafts_of(alloc, to.geo.block, calls, basis)?;
-    let meta = meta_of(alloc, to, calls, &s)?;
+    let meta = meta_of(alloc, to, calls, &s, basis)?;
     let lens = lengths(alloc, s.blocks.slice())?;
     let placed = match log.place(alloc, meta, &lens) {
         Ok(placed) => placed,

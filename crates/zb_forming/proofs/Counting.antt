@@ -22,7 +22,7 @@ use Rattle.zb_forming.specs.declared.draft.Was.{Was}
 use Rattle.zb_forming.specs.declared.draft.Was.TheVariants.{Hole, Stored, New}
 use Rattle.zb_forming.specs.declared.draft.Change.{Change}
 use Rattle.zb_forming.specs.declared.draft.Drafts.{Drafts}
-use Rattle.zb_forming.specs.Drafts.{stands, change_at, changes_of, length_at, is_cut, cut_count, write_count, was_bytes, merged, made_by, draft_of, added, drafted, version_in}
+use Rattle.zb_forming.specs.Drafts.{stands, change_at, changes_of, length_at, is_cut, cut_count, write_count, was_bytes, merged, made_by, draft_of, added, drafted, version_in, Fits}
 use Rattle.zb_forming.specs.Ops.{or_no_ptr, delta_of, deltas_made, first_only, op_made, ops_made}
 use Rattle.zb_forming.proofs.Runs.{each-append, each-at, each-range, get-behind, length-map, map-map_range, map-range_same, map-range_append}
 use Rattle.zb_forming.proofs.Covering.{written-fits, cut-fits, asked-facts}
@@ -132,10 +132,6 @@ ops-count b bytes ptrs (call ∷ calls) [] s same = absurd (omega (arith, same))
 ops-count b bytes ptrs (call ∷ calls) (found ∷ founds) s same = ap suc (ops-count b bytes ptrs calls founds (added b bytes s call.call found) (omega (arith, same)))
 
 -- ---- lengths of blocks
-
--- a block of 1 to b bytes
-abbrev pub Fits : ℕ → List ℕ → Type 0
-Fits b block = (1 ≤ length block) × (length block ≤ b)
 
 module _ (b : ℕ) (some : 0 < b) (bytes : Ptr → List ℕ) (short : (p : Ptr) → length (bytes p) ≤ b) where
   none-short : (blocks : List (List ℕ)) (place : ℕ) (o : Option (List ℕ)) → AllByRecursion (Fits b) blocks → slice_get blocks place ≡ o → length (or_none o) ≤ b

@@ -10,3 +10,4 @@ pub mod Operating
 pub mod Batching
 pub mod Counting
 pub mod Spelled
+pub mod Joining

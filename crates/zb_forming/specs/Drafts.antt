@@ -166,3 +166,7 @@ no_drafts = record { drafts = []; blocks = [] }
 pub record IsOrdered (found : Found) : Type 0 where
   pub rise : AllPairs (λ one other. one.0 < other.0) found.blocks
   pub version : found.version ≤ 2 ^ 48
+
+-- a block of 1 to b bytes
+abbrev pub Fits : ℕ → List ℕ → Type 0
+Fits b block = (1 ≤ length block) × (length block ≤ b)

@@ -24,6 +24,7 @@ use Rattle.zb_forming.specs.Drafts.{drafted, known, no_drafts}
 -- stripes of this room
 pub record IsGiven (b room : ℕ) (calls : List Numbered) (basis : Basis) : Type 0 where
   pub block_low : 64 ≤ b
+  pub block_high : b ≤ 4096
   pub run : run_of calls ≡ calls
   pub some : 0 < length calls
   pub updates : All (λ call. is_update call.call ≡ true) calls
@@ -36,11 +37,11 @@ drafts_of b calls basis = drafted b (known basis.fetched) calls basis.found no_d
 
 -- the batch that was placed is sealed, and its requests stand
 pub record IsMade (n f : ℕ) (log : SeenLog) (members : Members) (batch : Batch) (placed : Placed) (blocks : List (List ℕ)) (formed : Formed) : Type 0 where
-  pub seen : formed.sealed.members ≡ members
+  pub same_members : formed.sealed.members ≡ members
   pub same_batch : formed.sealed.batch ≡ batch
   pub same_place : formed.sealed.placed ≡ placed
-  pub is_sealed : IsSealed log placed formed.fresh
+  pub is_sealed : IsSealed log formed.sealed.placed formed.fresh
   pub log_is : formed.fresh.log ≡ log.log
   pub room : All (HasRoom log.room) formed.fresh.parts
   pub ahead : All (LiesAhead log.next.stripe) formed.fresh.parts
-  pub stored : ForGiven log (IsStored n f log placed (spelling_of_batch batch ++ concat blocks) blocks (writers_out members.state) formed.fresh formed.plan)
+  pub stored : ForGiven log (IsStored n f log formed.sealed.placed (spelling_of_batch formed.sealed.batch ++ concat blocks) blocks (writers_out members.state) formed.fresh formed.plan)

@@ -5,15 +5,15 @@ ghost use Rattle.zb_types.specs.Apply.{is_update};
 ghost use Rattle.zb_log.specs.declared.placed.LogFault.TheVariants.{Worn};
 ghost use Rattle.zb_log.specs.Places.{place};
 ghost use Rattle.zb_log.specs.Placing.{last_stripe};
-ghost use Rattle.zb_log.specs.Logs.{IsPlaced};
+ghost use Rattle.zb_log.specs.Logs.{laid_next, IsPlaced};
 ghost use Rattle.zb_batch.specs.Batches.{IsBatch, IsSpellable};
 ghost use Rattle.zb_batch.specs.Spelling.{meta_length};
 ghost use Rattle.zb_basis.specs.Runs.{run_of};
 ghost use Rattle.zb_basis.specs.Looking.{asks_of, room_of, AreFoundFor};
 ghost use Rattle.zb_basis.specs.Operations.{short_length};
 ghost use Rattle.zb_basis.specs.Wanting.{wanted_by, AreFetched};
-ghost use Rattle.zb_basis.specs.Forming.{log_from, IsFormed, IsTooFar};
-ghost use Rattle.zb_forming.specs.Drafts.{IsOrdered};
+ghost use Rattle.zb_basis.specs.Forming.{log_from, IsFormed, IsLaid, IsTooFar};
+ghost use Rattle.zb_forming.specs.Drafts.{Fits, IsOrdered};
 ghost use Rattle.zb_forming.specs.Ops.{batch_made};
 ghost use Rattle.zb_forming.specs.Sealing.{drafts_of, IsGiven, IsMade};
 
@@ -28,10 +28,10 @@ use zb_stripe::WritePlan;
 use zb_types::{ByteList, Class, Mem, Ptr};
 
 /// The operations of the calls, with the bytes of the new blocks.
-fn drafts_of(alloc: Global, block: u32, calls: &[Numbered], basis: &Basis) -> Mem<Drafts>
-    requires block { 0 < block }
-    requires found { AllByRecursion IsOrdered basis.now.found }
-    ensures { IfOk result (λ s. s ≡ drafts_of block calls.now basis.now) }
+fn drafts_of(alloc: Global, block: u32, room: u32, calls: &[Numbered], basis: &Basis) -> Mem<Drafts>
+    requires given { IsGiven block room calls.now basis.now }
+    ensures exact { IfOk result (λ s. s ≡ drafts_of block calls.now basis.now) }
+    ensures fit { IfOk result (λ s. AllByRecursion (Fits block) s.blocks) }
 {
     let s = no_drafts(alloc)?;
     drafted(
@@ -53,6 +53,24 @@ fn lengths(alloc: Global, blocks: &[ByteList]) -> Mem<Vec<u32>>
         lens.push(short_length(block.len()))?;
     }
     Ok(lens)
+}
+
+/// Places a batch next in the log, with blocks of 1 to `block` bytes.
+fn place_next(
+    alloc: Global,
+    log: &LogBuf,
+    block: u32,
+    meta: u32,
+    blocks: &[ByteList],
+) -> Result<Placed, LogFault>
+    requires block { log.now.block ≡ block }
+    requires small { block ≤ 4096 }
+    requires fit { AllByRecursion (Fits block) blocks.now }
+    ensures laid { IfOk result (IsLaid log.now meta (map length blocks.now)) }
+    ensures worn { IsErrOf result Worn → last_stripe < (laid_next log.now meta (map length blocks.now)).next.stripe }
+{
+    let lens = lengths(alloc, blocks)?;
+    log.place(alloc, meta, &lens)
 }
 
 /// The batch of the calls, where its new blocks have these pointers.
@@ -123,10 +141,10 @@ fn form_next(
     ensures formed { IfOk result (IsFormed to.geo.servers to.geo.fragment to.geo.block log.now to.number to.members calls.now basis.now) }
     ensures worn { IsErrOf result Worn → IsTooFar to.geo.block log.now to.number calls.now basis.now }
 {
-    let s = drafts_of(alloc, to.geo.block, calls, basis)?;
+    let room = (to.geo.servers - 1) * to.geo.fragment;
+    let s = drafts_of(alloc, to.geo.block, room, calls, basis)?;
     let meta = meta_of(alloc, to, calls, &s, basis)?;
-    let lens = lengths(alloc, s.blocks.slice())?;
-    let placed = match log.place(alloc, meta, &lens) {
+    let placed = match place_next(alloc, log, to.geo.block, meta, s.blocks.slice()) {
         Ok(placed) => placed,
         Err(fault) => return Err(fault),
     };

@@ -1,7 +1,8 @@
 -- What is known of the batch that is formed of what was given.
-use Rattle.std.proofs.Common.{◌≡◌, ℕ, zero, suc, ◌+◌, ◌-◌, ◌*◌, ◌<◌, ◌≤◌, ◌^◌, min, Bool, true, false, List, [], ◌∷◌, ◌++◌, length, map, Option, Some, None, refl, sym, ap, ◌∙◌, subst, inl, inr, arith}
-use Rattle.std.specs.Prelude.{if◌then◌else◌, All, fold, nat_le, sum_by, slice_index_or}
-use Rattle.std.specs.List.{AllByRecursion, AllZip}
+use Rattle.std.proofs.Common.{◌≡◌, ℕ, zero, suc, ◌+◌, ◌-◌, ◌*◌, ◌<◌, ◌≤◌, ◌^◌, min, Bool, true, false, List, [], ◌∷◌, ◌++◌, length, map, Option, Some, None, refl, sym, ap, ◌∙◌, subst, inl, inr, arith, append_assoc}
+use Rattle.std.specs.Prelude.{if◌then◌else◌, All, fold, Result, Ok, Err, IfOk, nat_le, sum_by, slice_index_or}
+use Rattle.std.specs.List.{AllByRecursion, AllZip, sum}
+use Rattle.std.proofs.lemmas.List.{map-append}
 use Rattle.std.proofs.lemmas.Slice.Zip.{AllZip-long}
 use Rattle.zb_types.specs.declared.ids.LogId.{LogId}
 use Rattle.zb_types.specs.declared.ids.Ptr.{Ptr}
@@ -10,8 +11,9 @@ use Rattle.zb_types.specs.declared.tables.Found.{Found}
 use Rattle.zb_types.specs.Apply.{is_update}
 use Rattle.zb_log.specs.declared.placed.Placed.{Placed}
 use Rattle.zb_log.specs.declared.places.Place.{Place}
-use Rattle.zb_log.specs.Placing.{Laid, begun, with_meta, with_block, with_batch, added as one_added, ready, AreBlocks, last_stripe}
-use Rattle.zb_log.specs.Logs.{SeenLog, IsPtrIn, laid_next}
+use Rattle.zb_log.specs.Placing.{Laid, begun, with_meta, with_block, with_batch, added as one_added, ready, turned, OneAStripe, last_stripe}
+use Rattle.zb_log.specs.Logs.{SeenLog, IsPlaced, IsPtrIn, LiesInFew, behind_meta, laid_next}
+use Rattle.zb_log.specs.Places.{BeginsNext, InOrder, ptr_at, range_of}
 use Rattle.zb_types.specs.declared.ids.Piece.{Piece}
 use Rattle.zb_batch.specs.declared.batch.Batch.{Batch}
 use Rattle.zb_batch.specs.Batches.{IsBatch, IsSpellable}
@@ -30,7 +32,7 @@ use Rattle.zb_forming.specs.declared.draft.Drafts.{Drafts}
 use Rattle.zb_forming.specs.Drafts.{known, no_drafts, drafted, Fits, IsOrdered}
 use Rattle.zb_forming.specs.Ops.{ops_made, batch_made, HasPaths}
 use Rattle.zb_forming.specs.Sealing.{IsGiven, IsMade, drafts_of}
-use Rattle.zb_forming.proofs.Runs.{each-of, each-weaker, all-of, length-map}
+use Rattle.zb_forming.proofs.Runs.{append-none, each-of, each-weaker, all-of, length-map}
 use Rattle.zb_forming.proofs.Asked.{ordered, fine, all-fetched, fetched-short, known-short, IsFine}
 use Rattle.zb_forming.proofs.Wanted.{wanted-each}
 use Rattle.zb_forming.proofs.Operating.{Stands}
@@ -114,3 +116,79 @@ module _ (b room : ℕ) (calls : List Numbered) (basis : Basis) (given : IsGiven
       → IsBatchOf b log number calls basis (batch_made log number ptrs calls (drafts_of b calls basis).drafts) ptrs (drafts_of b calls basis).blocks
   is-of_calls log number ptrs lens =
       subst (λ ds. IsBatchOf b log number calls basis (batch_made log number ptrs calls ds) ptrs (drafts_of b calls basis).blocks) (sym (drafts-are b (known basis.fetched) calls basis.found no_drafts)) (of-calls log number ptrs lens)
+
+-- ---- a batch that goes too far
+
+ready-ptrs : (laid : Laid) (n : ℕ) → (ready laid n).ptrs ≡ laid.ptrs
+ready-ptrs laid n = ready-if (nat_le (laid.next.offset + n) laid.room) where
+  ready-if : (t : Bool) → (if t then laid else turned laid).ptrs ≡ laid.ptrs
+  ready-if true = refl
+  ready-if false = refl
+
+meta-ptrs : (n : ℕ) (laid : Laid) → (with_meta laid n).ptrs ≡ laid.ptrs
+meta-ptrs zero laid = refl
+meta-ptrs (suc n) laid = meta-ptrs n (one_added laid 1) ∙ ready-ptrs laid 1
+
+blocks-ptrs : (lens : List ℕ) (laid : Laid) → map (λ (p : Ptr). p.len) (fold with_block laid lens).ptrs ≡ map (λ (p : Ptr). p.len) laid.ptrs ++ lens
+blocks-ptrs [] laid = sym (append-none (map (λ (p : Ptr). p.len) laid.ptrs))
+blocks-ptrs (n ∷ lens) laid =
+    blocks-ptrs lens (with_block laid n)
+    ∙ ap (λ ns. ns ++ lens) (map-append (λ (p : Ptr). p.len) laid.ptrs (ptr_at laid.log (ready laid n).next n ∷ []))
+    ∙ append_assoc (map (λ (p : Ptr). p.len) laid.ptrs) (n ∷ []) lens
+
+pub laid-lens : (log : SeenLog) (meta : ℕ) (lens : List ℕ) → map (λ (p : Ptr). p.len) (laid_next log meta lens).ptrs ≡ lens
+laid-lens log meta lens =
+    blocks-ptrs lens (with_meta (begun log.log log.room log.next) meta)
+    ∙ ap (λ (ptrs : List Ptr). map (λ (p : Ptr). p.len) ptrs ++ lens) (meta-ptrs meta (begun log.log log.room log.next))
+
+module _ (b room : ℕ) (calls : List Numbered) (basis : Basis) (given : IsGiven b room calls basis) (log : SeenLog) (id : LogId) (number : ℕ) (s : Drafts) (is : s ≡ drafts_of b calls basis) (same : log.log ≡ id) where
+  of-drafts : (ptrs : List Ptr) → map (λ (p : Ptr). p.len) ptrs ≡ map length s.blocks → IsBatchOf b log.log number calls basis (batch_made id number ptrs calls s.drafts) ptrs s.blocks
+  of-drafts ptrs lens =
+      subst (λ (l : LogId). IsBatchOf b l number calls basis (batch_made id number ptrs calls s.drafts) ptrs s.blocks) (sym same)
+      (subst (λ (d : Drafts). IsBatchOf b id number calls basis (batch_made id number ptrs calls d.drafts) ptrs d.blocks) (sym is)
+      (is-of_calls b room calls basis given id number ptrs (subst (λ (d : Drafts). map (λ (p : Ptr). p.len) ptrs ≡ map length d.blocks) is lens)))
+
+  pub too-far : (meta : ℕ) → ((ptrs : List Ptr) → meta ≡ meta_length (batch_made id number ptrs calls s.drafts)) → last_stripe < (laid_next log meta (map length s.blocks)).next.stripe → IsTooFar b log number calls basis
+  too-far meta long above = record {
+    batch = batch_made id number (laid_next log meta (map length s.blocks)).ptrs calls s.drafts;
+    blocks = s.blocks;
+    is_batch = subst (λ (m : ℕ). IsBatchOf b log.log number calls basis (batch_made id number (laid_next log meta (map length s.blocks)).ptrs calls s.drafts) (laid_next log m (map length s.blocks)).ptrs s.blocks)
+        (long (laid_next log meta (map length s.blocks)).ptrs) (of-drafts (laid_next log meta (map length s.blocks)).ptrs (laid-lens log meta (map length s.blocks)));
+    above = subst (λ (m : ℕ). last_stripe < (laid_next log m (map length s.blocks)).next.stripe) (long (laid_next log meta (map length s.blocks)).ptrs) above;
+  }
+
+  pub formed-is : (n f meta : ℕ) (members : Members) (batch : Batch) (placed : Placed) (formed : Formed)
+      → ((ptrs : List Ptr) → meta ≡ meta_length (batch_made id number ptrs calls s.drafts))
+      → ((ptrs : List Ptr) → IsSpellable (batch_made id number ptrs calls s.drafts))
+      → batch ≡ batch_made id number placed.ptrs calls s.drafts
+      → IsLaid log meta (map length s.blocks) placed → (1 ≤ batch.number → IsBatch batch) → IsMade n f log members batch placed s.blocks formed
+      → IsFormed n f b log number members calls basis formed
+  formed-is n f meta members batch placed formed long spelled made laid whole is_made = record {
+    blocks = s.blocks;
+    seen = is_made.same_members;
+    is_batch =
+        subst (λ (x : Batch). IsBatchOf b log.log number calls basis x formed.sealed.placed.ptrs s.blocks) (sym there)
+        (subst (λ (p : Placed). IsBatchOf b log.log number calls basis (batch_made id number placed.ptrs calls s.drafts) p.ptrs s.blocks) (sym is_made.same_place)
+        (of-drafts placed.ptrs (ptrs-lens log.log placed.pieces placed.ptrs (map length s.blocks) laid.ptrs)));
+    spelled = subst IsSpellable (sym there) (spelled placed.ptrs);
+    whole = λ low. subst IsBatch (sym is_made.same_batch) (whole (subst (λ (x : Batch). 1 ≤ x.number) (sym made) low));
+    laid =
+        subst (λ (m : ℕ). IsLaid log m (map length s.blocks) formed.sealed.placed) (long placed.ptrs ∙ ap meta_length (sym there))
+        (subst (IsLaid log meta (map length s.blocks)) (sym is_made.same_place) laid);
+    is_sealed = is_made.is_sealed;
+    log_is = is_made.log_is;
+    room = is_made.room;
+    ahead = is_made.ahead;
+    stored = is_made.stored;
+  } where
+    there : formed.sealed.batch ≡ batch_made id number placed.ptrs calls s.drafts
+    there = is_made.same_batch ∙ made
+
+-- all that is said of where a batch was placed
+pub laid-of : {E : Type 0} (r : Result Placed E) (log : SeenLog) (meta : ℕ) (lens : List ℕ)
+    → IfOk r (IsPlaced log meta lens) → IfOk r (λ placed. InOrder log.room log.next placed.pieces placed.next) → IfOk r (λ placed. OneAStripe placed.pieces)
+    → IfOk r (LiesInFew log (meta + sum lens)) → IfOk r (λ placed. All (BeginsNext log.next) placed.pieces)
+    → IfOk r (λ placed. InOrder log.room (behind_meta log meta) (map range_of placed.ptrs) placed.next) → IfOk r (λ placed. AllZip (IsPtrIn log.log placed.pieces) placed.ptrs lens)
+    → IfOk r (IsLaid log meta lens)
+laid-of (Ok placed) log meta lens exact order one few begin behind ptrs = record { exact = exact; order = order; one_a_stripe = one; few = few; begin = begin; after_meta = behind; ptrs = ptrs }
+laid-of (Err e) log meta lens exact order one few begin behind ptrs = exact

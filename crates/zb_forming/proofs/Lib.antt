@@ -11,3 +11,4 @@ pub mod Batching
 pub mod Counting
 pub mod Spelled
 pub mod Joining
+pub mod Abouts

@@ -3,7 +3,7 @@ ghost use Rattle.zb_types.specs.declared.ids.Ptr.{Ptr as PtrOf};
 ghost use Rattle.std.specs.List.{AllByRecursion};
 ghost use Rattle.zb_types.specs.Apply.{is_update};
 ghost use Rattle.zb_log.specs.declared.placed.LogFault.TheVariants.{Worn};
-ghost use Rattle.zb_log.specs.Places.{place};
+ghost use Rattle.zb_log.specs.Places.{place, InOrder};
 ghost use Rattle.zb_log.specs.Placing.{last_stripe};
 ghost use Rattle.zb_log.specs.Logs.{laid_next, IsPlaced};
 ghost use Rattle.zb_batch.specs.Batches.{IsBatch, IsSpellable};
@@ -94,9 +94,11 @@ fn sealed(
     requires room { log.now.room ≡ room_of to.geo.servers to.geo.fragment }
     requires spellable { IsSpellable batch }
     requires placed { IsPlaced log.now (meta_length batch) (map length blocks.now) placed }
+    requires order { InOrder log.now.room log.now.next placed.pieces placed.next }
     ensures made { IfOk result (IsMade to.geo.servers to.geo.fragment log.now to.members batch placed blocks.now) }
     ensures whole { IfOk result (λ formed. 1 ≤ batch.number → IsBatch batch) }
 {
+    batches_have_their_length();
     let text = batch.write(alloc)?;
     let fresh = log.seal(alloc, &placed, &text, blocks)?;
     let out = writers_out(&to.members);

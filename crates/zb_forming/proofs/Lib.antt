@@ -12,3 +12,4 @@ pub mod Counting
 pub mod Spelled
 pub mod Joining
 pub mod Abouts
+pub mod Parts

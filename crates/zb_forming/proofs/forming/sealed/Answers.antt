@@ -5,6 +5,10 @@ use Rattle.zb_stripe.specs.Fresh.{IsFreshFlush}
 use Rattle.zb_stripe.specs.Writing.{plan_requests}
 use Rattle.zb_log.specs.Logs.{IsPlaced, ForGiven, flush_of}
 use Rattle.zb_basis.specs.Forming.{IsStored, writers_out}
+use Rattle.std.specs.Prelude.{All}
+use Rattle.zb_types.specs.declared.ids.ServerId.{ServerId}
+use Rattle.zb_types.specs.declared.requests.Request.{Request}
+use Rattle.zb_basis.specs.Delivering.{IsAbout}
 use Rattle.zb_forming.proofs.Abouts.{all-ask}
 use Rattle.zb_forming.proofs.forming.sealed.Goals as goal
 
@@ -40,6 +44,9 @@ returns-clause-made c = record {
         rise = c.in_ok-fresh.ensures.rise given are;
         end = c.in_ok-fresh.ensures.end given are;
         requests = plan;
-        about = ?;
+        about =
+            subst (λ (requests : List (ServerId × Request)). All (λ (asked : ServerId × Request). IsAbout c.args.log.now.next.stripe c.args.placed.next.stripe asked.1) requests) (sym plan)
+            (all-ask c.args.to.geo.servers c.args.to.geo.fragment c.args.log.now.room (writers_out c.args.to.members.state) Client c.args.log.now.next c.args.placed.next c.args.placed.pieces flush c.requires.order
+            (c.in_ok-fresh.ensures.pieces given are));
       });
 }

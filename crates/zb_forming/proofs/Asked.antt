@@ -1,17 +1,16 @@
 -- What is known of what lookups found, and of what was fetched.
-use Rattle.std.proofs.Common.{◌≡◌, ℕ, zero, suc, ◌+◌, ◌<◌, ◌≤◌, Bool, true, false, List, [], ◌∷◌, length, Option, Some, None, refl, sym, ap, ◌∙◌, subst, arith}
-use Rattle.std.specs.Prelude.{if◌then◌else◌, ◌==◌, ◌&&◌, ◌||◌, slice_index_or, All, Any, Result, Ok, Err, IfOk}
-use Rattle.std.specs.List.{AllByRecursion, AllZip}
+use Rattle.std.proofs.Common.{◌≡◌, ℕ, suc, ◌+◌, ◌<◌, ◌≤◌, Bool, true, false, List, [], ◌∷◌, length, refl, sym, ap, ◌∙◌, arith}
+use Rattle.std.specs.Prelude.{if◌then◌else◌, ◌==◌, ◌&&◌, Any, Result, Ok, Err, IfOk}
+use Rattle.std.specs.List.{AllByRecursion}
 use Rattle.std.proofs.lemmas.Bool.{eq-eqb, eqb-true}
-use Rattle.zb_types.specs.declared.ids.LogId.{LogId}
 use Rattle.zb_types.specs.declared.ids.Ptr.{Ptr}
 use Rattle.zb_types.specs.declared.tables.Found.{Found}
 use Rattle.zb_basis.specs.declared.asks.Ask.{Ask}
 use Rattle.zb_basis.specs.declared.basis.Fetched.{Fetched}
-use Rattle.zb_basis.specs.Looking.{IsFoundBlock, MayFind, AreFoundFor}
-use Rattle.zb_basis.specs.Wanting.{IsFetched, AreFetched, Holds}
+use Rattle.zb_basis.specs.Looking.{IsFoundBlock, AreFoundFor}
+use Rattle.zb_basis.specs.Wanting.{AreFetched, Holds}
 use Rattle.zb_forming.specs.Drafts.{is_same, known, IsOrdered}
-use Rattle.zb_forming.proofs.Runs.{each-of, each-weaker, all-of}
+use Rattle.zb_forming.proofs.Runs.{each-of, each-weaker}
 
 -- ---- lookups
 

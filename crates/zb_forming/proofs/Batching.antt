@@ -1,28 +1,24 @@
 -- The operations of a batch, one behind the other.
-use Rattle.std.proofs.Common.{◌≡◌, ℕ, zero, suc, ◌+◌, ◌-◌, ◌*◌, ◌/◌, ◌%◌, ◌<◌, ◌≤◌, Bool, true, false, not, List, [], ◌∷◌, ◌++◌, length, map, Option, Some, None, refl, sym, ap, ◌∙◌, subst, inl, inr, arith, append_assoc, length-append}
-use Rattle.std.specs.Prelude.{if◌then◌else◌, ◌==◌, ◌&&◌, ◌||◌, nat_lt, nat_le, slice_get}
-use Rattle.std.specs.List.{AllByRecursion, range_with_len, flat_map}
+use Rattle.std.proofs.Common.{◌≡◌, ℕ, ◌+◌, ◌-◌, ◌/◌, ◌≤◌, Bool, true, false, List, [], ◌∷◌, ◌++◌, length, Some, None, refl, sym, ap, ◌∙◌, subst, arith, append_assoc, length-append}
+use Rattle.std.specs.Prelude.{if◌then◌else◌, ◌&&◌, ◌||◌, nat_le, slice_get}
+use Rattle.std.specs.List.{AllByRecursion}
 use Rattle.std.proofs.lemmas.List.FromFn.{length-map-range_with_len}
-use Rattle.std.proofs.lemmas.Bool.{cases_Bool}
-use Rattle.zb_types.specs.declared.ids.Fid.{Fid}
 use Rattle.zb_types.specs.declared.ids.Ptr.{Ptr}
 use Rattle.zb_types.specs.declared.calls.Call.{Call}
 use Rattle.zb_types.specs.declared.calls.Call.TheVariants.{Create, Mkdir, Remove, Rename, Write, Truncate, Sync, Read, List as ListOf, Stat, Find}
 use Rattle.zb_types.specs.declared.tables.Found.{Found}
 use Rattle.zb_types.specs.Apply.{is_update}
-use Rattle.zb_delta.specs.Spelling.{body_of}
-use Rattle.zb_batch.specs.Spelling.{deltas_of}
 use Rattle.zb_basis.specs.declared.basis.Fetched.{Fetched}
 use Rattle.zb_basis.specs.declared.calls.Numbered.{Numbered}
 use Rattle.zb_basis.specs.Looking.{ask_of}
-use Rattle.zb_basis.specs.Operations.{Changed, is_done, OpsAre, after_op, short_length, blocks_in, new_of, or_before, with_file, new_ptrs}
+use Rattle.zb_basis.specs.Operations.{Changed, is_done, OpsAre, after_op, short_length, new_of}
 use Rattle.zb_basis.specs.Wanting.{touches, wanted_of, wanted_behind}
 use Rattle.zb_forming.specs.declared.draft.Change.{Change}
 use Rattle.zb_forming.specs.declared.draft.Draft.{Draft}
 use Rattle.zb_forming.specs.declared.draft.Drafts.{Drafts}
 use Rattle.zb_forming.specs.Drafts.{known, stands, change_at, changes_of, length_at, is_cut, cut_count, write_count, was_bytes, merged, made_by, draft_of, added, drafted, version_in}
-use Rattle.zb_forming.specs.Ops.{or_no_ptr, delta_of, deltas_made, first_only, op_made, ops_made}
-use Rattle.zb_forming.proofs.Runs.{each-front, each-back, length-map, append-none, map-map_range, map-range_same, map-range_append}
+use Rattle.zb_forming.specs.Ops.{deltas_made, first_only, op_made, ops_made}
+use Rattle.zb_forming.proofs.Runs.{each-front, each-back, length-map, append-none}
 use Rattle.zb_forming.proofs.Moving.{Touched}
 use Rattle.zb_forming.proofs.Touching.{touched-more}
 use Rattle.zb_forming.proofs.Wanted.{wanted-same}

@@ -1,9 +1,9 @@
 -- The new pointers of a batch in order, and how long its blocks are.
-use Rattle.std.proofs.Common.{◌≡◌, ℕ, zero, suc, ◌+◌, ◌-◌, ◌*◌, ◌/◌, ◌%◌, ◌<◌, ◌≤◌, Bool, true, false, not, List, [], ◌∷◌, ◌++◌, length, map, Option, Some, None, refl, sym, ap, ◌∙◌, subst, inl, inr, arith, append_assoc, length-append}
+use Rattle.std.proofs.Common.{◌≡◌, ℕ, zero, suc, ◌+◌, ◌-◌, ◌/◌, ◌%◌, ◌<◌, ◌≤◌, Bool, true, false, not, List, [], ◌∷◌, ◌++◌, length, map, Option, Some, None, refl, sym, ap, ◌∙◌, subst, arith, append_assoc, length-append}
 use Rattle.std.specs.Prelude.{if◌then◌else◌, ◌==◌, ◌&&◌, nat_lt, nat_le, slice_get}
 use Rattle.std.specs.List.{AllByRecursion, range_with_len, flat_map}
 use Rattle.std.proofs.lemmas.List.FromFn.{length-map-range_with_len}
-use Rattle.std.proofs.lemmas.Bool.{cases_Bool, ltb-true}
+use Rattle.std.proofs.lemmas.Bool.{ltb-true}
 use Rattle.zb_types.specs.declared.ids.Fid.{Fid}
 use Rattle.zb_types.specs.declared.ids.Ptr.{Ptr}
 use Rattle.zb_types.specs.declared.calls.Call.{Call}
@@ -16,14 +16,14 @@ use Rattle.zb_delta.specs.Spelling.{body_of}
 use Rattle.zb_batch.specs.Spelling.{deltas_of}
 use Rattle.zb_basis.specs.declared.calls.Numbered.{Numbered}
 use Rattle.zb_basis.specs.Looking.{ask_of}
-use Rattle.zb_basis.specs.Merging.{written_block, cut_block}
+use Rattle.zb_basis.specs.Merging.{cut_block}
 use Rattle.zb_basis.specs.Operations.{is_done, new_ptrs}
 use Rattle.zb_forming.specs.declared.draft.Was.{Was}
 use Rattle.zb_forming.specs.declared.draft.Was.TheVariants.{Hole, Stored, New}
 use Rattle.zb_forming.specs.declared.draft.Change.{Change}
 use Rattle.zb_forming.specs.declared.draft.Drafts.{Drafts}
 use Rattle.zb_forming.specs.Drafts.{stands, change_at, changes_of, length_at, is_cut, cut_count, write_count, was_bytes, merged, made_by, draft_of, added, drafted, version_in, Fits}
-use Rattle.zb_forming.specs.Ops.{or_no_ptr, delta_of, deltas_made, first_only, op_made, ops_made}
+use Rattle.zb_forming.specs.Ops.{or_no_ptr, delta_of, deltas_made, op_made, ops_made}
 use Rattle.zb_forming.proofs.Runs.{each-append, each-at, each-range, get-behind, length-map, map-map_range, map-range_same, map-range_append}
 use Rattle.zb_forming.proofs.Covering.{written-fits, cut-fits, asked-facts}
 use Rattle.zb_forming.proofs.Batching.{new_drafts, only-same}

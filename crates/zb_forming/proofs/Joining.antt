@@ -1,6 +1,6 @@
 -- What is known of the batch that is formed of what was given.
-use Rattle.std.proofs.Common.{◌≡◌, ℕ, zero, suc, ◌+◌, ◌-◌, ◌*◌, ◌<◌, ◌≤◌, ◌^◌, min, Bool, true, false, List, [], ◌∷◌, ◌++◌, length, map, Option, Some, None, refl, sym, ap, ◌∙◌, subst, inl, inr, arith, append_assoc}
-use Rattle.std.specs.Prelude.{if◌then◌else◌, All, fold, Result, Ok, Err, IfOk, nat_le, sum_by, slice_index_or}
+use Rattle.std.proofs.Common.{◌≡◌, ℕ, zero, suc, ◌+◌, ◌<◌, ◌≤◌, Bool, true, false, List, [], ◌∷◌, ◌++◌, length, map, Some, None, refl, sym, ap, ◌∙◌, subst, arith, append_assoc}
+use Rattle.std.specs.Prelude.{if◌then◌else◌, All, fold, Result, Ok, Err, IfOk, nat_le, sum_by}
 use Rattle.std.specs.List.{AllByRecursion, AllZip, sum}
 use Rattle.std.proofs.lemmas.List.{map-append}
 use Rattle.std.proofs.lemmas.Slice.Zip.{AllZip-long}
@@ -10,8 +10,7 @@ use Rattle.zb_types.specs.declared.nodes.Members.{Members}
 use Rattle.zb_types.specs.declared.tables.Found.{Found}
 use Rattle.zb_types.specs.Apply.{is_update}
 use Rattle.zb_log.specs.declared.placed.Placed.{Placed}
-use Rattle.zb_log.specs.declared.places.Place.{Place}
-use Rattle.zb_log.specs.Placing.{Laid, begun, with_meta, with_block, with_batch, added as one_added, ready, turned, OneAStripe, last_stripe}
+use Rattle.zb_log.specs.Placing.{Laid, begun, with_meta, with_block, added as one_added, ready, turned, OneAStripe, last_stripe}
 use Rattle.zb_log.specs.Logs.{SeenLog, IsPlaced, IsPtrIn, LiesInFew, behind_meta, laid_next}
 use Rattle.zb_log.specs.Places.{BeginsNext, InOrder, ptr_at, range_of}
 use Rattle.zb_types.specs.declared.ids.Piece.{Piece}
@@ -19,23 +18,21 @@ use Rattle.zb_batch.specs.declared.batch.Batch.{Batch}
 use Rattle.zb_batch.specs.Batches.{IsBatch, IsSpellable}
 use Rattle.zb_batch.specs.Reading.{op_length}
 use Rattle.zb_batch.specs.Spelling.{meta_length}
-use Rattle.zb_basis.specs.declared.asks.Ask.{Ask}
 use Rattle.zb_basis.specs.declared.basis.Fetched.{Fetched}
 use Rattle.zb_basis.specs.declared.basis.Basis.{Basis}
 use Rattle.zb_basis.specs.declared.basis.Formed.{Formed}
 use Rattle.zb_basis.specs.declared.calls.Numbered.{Numbered}
-use Rattle.zb_basis.specs.Looking.{ask_of, asks_of, MayFind, AreFoundFor}
+use Rattle.zb_basis.specs.Looking.{ask_of, asks_of, MayFind}
 use Rattle.zb_basis.specs.Operations.{short_length, unchanged}
 use Rattle.zb_basis.specs.Wanting.{wanted_by}
-use Rattle.zb_basis.specs.Forming.{Stand, IsBatchOf, IsLaid, IsFormed, IsTooFar}
+use Rattle.zb_basis.specs.Forming.{IsBatchOf, IsLaid, IsFormed, IsTooFar}
 use Rattle.zb_forming.specs.declared.draft.Drafts.{Drafts}
-use Rattle.zb_forming.specs.Drafts.{known, no_drafts, drafted, Fits, IsOrdered}
-use Rattle.zb_forming.specs.Ops.{ops_made, batch_made, HasPaths}
+use Rattle.zb_forming.specs.Drafts.{known, no_drafts, Fits, IsOrdered}
+use Rattle.zb_forming.specs.Ops.{batch_made, HasPaths}
 use Rattle.zb_forming.specs.Sealing.{IsGiven, IsMade, drafts_of}
-use Rattle.zb_forming.proofs.Runs.{append-none, each-of, each-weaker, all-of, length-map}
+use Rattle.zb_forming.proofs.Runs.{append-none, each-of, each-weaker, length-map}
 use Rattle.zb_forming.proofs.Asked.{ordered, fine, all-fetched, fetched-short, known-short, IsFine}
 use Rattle.zb_forming.proofs.Wanted.{wanted-each}
-use Rattle.zb_forming.proofs.Operating.{Stands}
 use Rattle.zb_forming.proofs.Batching.{new_drafts, drafts-are, ops-are}
 use Rattle.zb_forming.proofs.Counting.{ptrs-are, ops-count, blocks-fit}
 use Rattle.zb_forming.proofs.Spelled.{spellable}

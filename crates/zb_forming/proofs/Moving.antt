@@ -1,24 +1,14 @@
 -- Where blocks stand after operations, and which were touched.
-use Rattle.std.proofs.Common.{◌≡◌, ℕ, zero, suc, ◌+◌, ◌-◌, ◌*◌, ◌/◌, ◌%◌, ◌<◌, ◌≤◌, Bool, true, false, not, List, [], ◌∷◌, ◌++◌, length, map, Option, Some, None, refl, sym, ap, ◌∙◌, subst, inl, inr, arith}
+use Rattle.std.proofs.Common.{◌≡◌, ℕ, ◌+◌, ◌-◌, ◌<◌, ◌≤◌, Bool, true, false, List, [], ◌∷◌, ◌++◌, Option, Some, None, refl, sym, ap, ◌∙◌, inl, inr, arith}
 use Rattle.std.specs.Prelude.{if◌then◌else◌, ◌==◌, ◌&&◌, ◌||◌, nat_lt, nat_le, slice_get, is_some}
-use Rattle.std.specs.List.{AllByRecursion, range_with_len, flat_map}
-use Rattle.std.proofs.lemmas.Bool.{cases_Bool, cases_lt, le-leb, lt-leb}
+use Rattle.std.proofs.lemmas.Bool.{cases_lt, le-leb, lt-leb}
 use Rattle.std.proofs.lemmas.Bool.Decides.{nat_tests}
-use Rattle.zb_types.specs.declared.ids.Fid.{Fid}
-use Rattle.zb_types.specs.declared.ids.Ptr.{Ptr}
-use Rattle.zb_types.specs.declared.calls.Call.{Call}
-use Rattle.zb_types.specs.declared.calls.Call.TheVariants.{Create, Mkdir, Remove, Rename, Write, Truncate, Sync, Read, List as ListOf, Stat, Find}
 use Rattle.zb_types.specs.declared.tables.Found.{Found}
-use Rattle.zb_types.specs.Keyed.{look}
-use Rattle.zb_basis.specs.Looking.{ask_of}
-use Rattle.zb_basis.specs.Operations.{blocks_in, is_done, is_longer}
-use Rattle.zb_basis.specs.Wanting.{touches, is_asked}
 use Rattle.zb_forming.specs.declared.draft.Was.{Was}
 use Rattle.zb_forming.specs.declared.draft.Was.TheVariants.{Hole, Stored, New}
 use Rattle.zb_forming.specs.declared.draft.Change.{Change}
 use Rattle.zb_forming.specs.declared.draft.Draft.{Draft}
-use Rattle.zb_forming.specs.declared.draft.Drafts.{Drafts}
-use Rattle.zb_forming.specs.Drafts.{is_left, hole_if, place_of, moved_by, later, moved_in, was_found, or_stood, stands, change_at, changes_of, cut_count, write_count, length_at, is_cut, draft_of}
+use Rattle.zb_forming.specs.Drafts.{is_left, hole_if, place_of, moved_by, later, moved_in, change_at, changes_of}
 use Rattle.zb_forming.proofs.Runs.{get-range, get-range_past}
 
 -- ---- later places

@@ -1,42 +1,36 @@
 -- The operations that are made of drafts are those of the calls.
-use Rattle.std.proofs.Common.{◌≡◌, ℕ, zero, suc, ◌+◌, ◌-◌, ◌*◌, ◌/◌, ◌%◌, ◌<◌, ◌≤◌, Bool, true, false, not, List, [], ◌∷◌, ◌++◌, length, map, Option, Some, None, refl, sym, ap, ◌∙◌, subst, inl, inr, arith, append_assoc}
-use Rattle.std.specs.Prelude.{if◌then◌else◌, ◌==◌, ◌&&◌, ◌||◌, nat_lt, nat_le, slice_get, is_some, option_map}
+use Rattle.std.proofs.Common.{◌≡◌, ℕ, ◌+◌, ◌-◌, ◌*◌, ◌/◌, ◌%◌, ◌<◌, ◌≤◌, Bool, true, false, List, [], ◌∷◌, ◌++◌, length, Some, refl, sym, ap, ◌∙◌, subst, inl, inr, arith}
+use Rattle.std.specs.Prelude.{if◌then◌else◌, ◌&&◌, nat_lt, slice_get}
 use Rattle.std.specs.Bool.{MatchBool}
-use Rattle.std.specs.List.{AllByRecursion, AllZip, range_with_len, flat_map}
-use Rattle.std.proofs.lemmas.List.FromFn.{length-map-range_with_len}
-use Rattle.std.proofs.lemmas.Bool.{cases_Bool, cases_lt}
+use Rattle.std.specs.List.{AllByRecursion, AllZip, range_with_len}
+use Rattle.std.proofs.lemmas.Bool.{cases_Bool}
 use Rattle.std.proofs.lemmas.Bool.Decides.{nat_tests}
 use Rattle.zb_types.specs.declared.ids.Fid.{Fid}
 use Rattle.zb_types.specs.declared.ids.Ptr.{Ptr}
 use Rattle.zb_types.specs.declared.calls.Call.{Call}
 use Rattle.zb_types.specs.declared.calls.Call.TheVariants.{Create, Mkdir, Remove, Rename, Write, Truncate, Sync, Read, List as ListOf, Stat, Find}
 use Rattle.zb_types.specs.declared.tables.Found.{Found}
-use Rattle.zb_types.specs.Keyed.{look}
 use Rattle.zb_types.specs.Tree.{or_none}
-use Rattle.zb_types.specs.Apply.{max_file, is_update}
+use Rattle.zb_types.specs.Apply.{is_update}
 use Rattle.zb_delta.specs.declared.delta.Delta.{Delta}
 use Rattle.zb_delta.specs.declared.delta.Delta.TheVariants.{Update}
 use Rattle.zb_basis.specs.declared.basis.Fetched.{Fetched}
-use Rattle.zb_basis.specs.declared.calls.Numbered.{Numbered}
 use Rattle.zb_basis.specs.Looking.{ask_of}
 use Rattle.zb_basis.specs.Merging.{written_block, cut_block}
-use Rattle.zb_basis.specs.Operations.{Changed, stands_now, is_done, is_longer, block_bytes, IsDelta, IsWriteDelta, WriteDeltas, CutDeltas, OpIs, OpsAre, after_op, short_length, blocks_in}
-use Rattle.zb_basis.specs.Wanting.{has_other, touches, wanted_of, wanted_behind}
+use Rattle.zb_basis.specs.Operations.{Changed, stands_now, is_done, is_longer, block_bytes, IsDelta, IsWriteDelta, WriteDeltas, CutDeltas, OpIs}
+use Rattle.zb_basis.specs.Wanting.{has_other}
 use Rattle.zb_forming.specs.declared.draft.Was.{Was}
 use Rattle.zb_forming.specs.declared.draft.Was.TheVariants.{Hole, Stored, New}
 use Rattle.zb_forming.specs.declared.draft.Change.{Change}
-use Rattle.zb_forming.specs.declared.draft.Draft.{Draft}
 use Rattle.zb_forming.specs.declared.draft.Drafts.{Drafts}
-use Rattle.zb_forming.specs.Drafts.{known, stands, change_at, changes_of, length_at, is_cut, cut_count, write_count, was_bytes, merged, made_by, draft_of, added, version_in}
-use Rattle.zb_forming.specs.Ops.{or_no_ptr, ptr_of, delta_of, deltas_made, first_only, op_made, ops_made}
+use Rattle.zb_forming.specs.Drafts.{known, stands, change_at, changes_of, length_at, is_cut, cut_count, write_count, was_bytes, merged, made_by, draft_of, version_in}
+use Rattle.zb_forming.specs.Ops.{or_no_ptr, ptr_of, delta_of, deltas_made, first_only, op_made}
 use Rattle.zb_forming.specs.Wants.{wanted_changes, wanted_for, wanted_where, found_where}
-use Rattle.zb_forming.proofs.Runs.{each-at, zip-at, zip-range, get-front, get-behind, get-some, get-range, map-map_range, each-flat_range, each-front, each-back, look-each}
-use Rattle.zb_forming.proofs.Moving.{Touched}
-use Rattle.zb_forming.proofs.Touching.{touched-more}
-use Rattle.zb_forming.proofs.Wanted.{changes-flat, wanted-same}
+use Rattle.zb_forming.proofs.Runs.{zip-at, zip-range, get-front, get-behind, get-some, get-range, map-map_range, each-flat_range, each-front, look-each}
+use Rattle.zb_forming.proofs.Wanted.{changes-flat}
 use Rattle.zb_forming.proofs.Asked.{is_fetched, known-is, known-none}
 use Rattle.zb_forming.proofs.Covering.{block-covered}
-use Rattle.zb_forming.proofs.Shown.{Shows, stands-same, version-same, done-same, done-short, new-changes, shows-done, shows-undone, Bounded, bound-more, changes-bound, stands-new, stands-stored}
+use Rattle.zb_forming.proofs.Shown.{Shows, stands-same, version-same, done-same, Bounded, stands-new, stands-stored}
 
 abbrev pub IsKnown : List Fetched → Ptr → Type 0
 IsKnown fetched p = is_fetched fetched p ≡ true

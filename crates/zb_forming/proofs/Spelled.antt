@@ -1,10 +1,9 @@
 -- The batch that is made can be spelled.
-use Rattle.std.proofs.Common.{◌≡◌, ℕ, zero, suc, ◌+◌, ◌-◌, ◌*◌, ◌/◌, ◌%◌, ◌<◌, ◌≤◌, ◌^◌, Bool, true, false, not, List, [], ◌∷◌, ◌++◌, length, map, refl, sym, ap, ◌∙◌, subst, inl, inr, arith}
-use Rattle.std.specs.Prelude.{if◌then◌else◌, ◌==◌, ◌&&◌, nat_lt, nat_le, sum_by, IsTrue}
+use Rattle.std.proofs.Common.{◌≡◌, ℕ, zero, suc, ◌+◌, ◌*◌, ◌<◌, ◌≤◌, Bool, true, false, not, List, [], ◌∷◌, length, map, refl, sym, ap, ◌∙◌, arith}
+use Rattle.std.specs.Prelude.{if◌then◌else◌, ◌==◌, ◌&&◌, nat_le, sum_by, IsTrue}
 use Rattle.std.specs.List.{AllByRecursion, list_all}
-use Rattle.std.proofs.lemmas.Bool.{le-leb, leb-true, cases_lt}
+use Rattle.std.proofs.lemmas.Bool.{le-leb, leb-true}
 use Rattle.std.proofs.lemmas.List.Sums.{sum_by-cons}
-use Rattle.std.proofs.Math.Nat.{mul-le-mul_left, div-mul-le_self, mul-le-mul}
 use Rattle.zb_types.specs.declared.ids.Fid.{Fid}
 use Rattle.zb_types.specs.declared.ids.LogId.{LogId}
 use Rattle.zb_types.specs.declared.ids.Ptr.{Ptr}
@@ -15,25 +14,22 @@ use Rattle.zb_types.specs.Limits.{most_kept}
 use Rattle.zb_types.specs.Paths.{is_path, are_names}
 use Rattle.zb_types.specs.Apply.{is_update, max_file}
 use Rattle.zb_batch.specs.declared.batch.Batch.{Batch}
-use Rattle.zb_batch.specs.declared.batch.Op.{Op}
 use Rattle.zb_batch.specs.Batches.{IsShaped, IsUpdateOf, IsSpellable, is_company, is_alone as op_alone}
 use Rattle.zb_batch.specs.Reading.{op_length}
 use Rattle.zb_batch.specs.Shapes.{shape_of, writes, cuts}
 use Rattle.zb_batch.specs.Spelling.{meta_length}
-use Rattle.zb_basis.specs.declared.asks.Ask.{Ask}
 use Rattle.zb_basis.specs.declared.calls.Numbered.{Numbered}
 use Rattle.zb_basis.specs.Runs.{is_alone, company, run_of}
-use Rattle.zb_basis.specs.Looking.{ask_of}
 use Rattle.zb_basis.specs.Operations.{is_done}
 use Rattle.zb_forming.specs.declared.draft.Change.{Change}
 use Rattle.zb_forming.specs.declared.draft.Draft.{Draft}
 use Rattle.zb_forming.specs.declared.draft.Drafts.{Drafts}
-use Rattle.zb_forming.specs.Drafts.{draft_of, added, write_count}
+use Rattle.zb_forming.specs.Drafts.{draft_of, added}
 use Rattle.zb_forming.specs.Ops.{delta_of, deltas_made, first_only, op_made, ops_made, batch_made, HasPaths}
 use Rattle.zb_forming.proofs.Runs.{length-map}
 use Rattle.zb_forming.proofs.Covering.{write-count}
 use Rattle.zb_forming.proofs.Batching.{new_drafts}
-use Rattle.zb_forming.proofs.Counting.{length-changes, count_of, ops-count}
+use Rattle.zb_forming.proofs.Counting.{length-changes, ops-count}
 
 -- ---- shapes
 

@@ -1,7 +1,7 @@
 -- Touched blocks, one operation after the other.
-use Rattle.std.proofs.Common.{◌≡◌, ℕ, zero, suc, ◌+◌, ◌-◌, ◌*◌, ◌/◌, ◌%◌, ◌<◌, ◌≤◌, Bool, true, false, not, List, [], ◌∷◌, ◌++◌, length, map, Option, Some, None, refl, sym, ap, ◌∙◌, subst, inl, inr, arith}
+use Rattle.std.proofs.Common.{◌≡◌, ℕ, ◌+◌, ◌-◌, ◌/◌, Bool, true, false, List, [], ◌∷◌, ◌++◌, length, Option, Some, None, refl, sym, ap, ◌∙◌, inl, inr, arith}
 use Rattle.std.specs.Prelude.{if◌then◌else◌, ◌==◌, ◌&&◌, ◌||◌, nat_lt, nat_le, slice_get, is_some}
-use Rattle.std.proofs.lemmas.Bool.{cases_Bool, cases_lt, cases_eq, eq-eqb, ne_eqb}
+use Rattle.std.proofs.lemmas.Bool.{cases_eq, ne_eqb}
 use Rattle.std.proofs.lemmas.Bool.Decides.{nat_tests}
 use Rattle.zb_types.specs.declared.ids.Fid.{Fid}
 use Rattle.zb_types.specs.declared.ids.Ptr.{Ptr}
@@ -13,10 +13,9 @@ use Rattle.zb_basis.specs.Looking.{ask_of}
 use Rattle.zb_basis.specs.Operations.{blocks_in, is_done, is_longer}
 use Rattle.zb_basis.specs.Wanting.{touches, is_asked}
 use Rattle.zb_forming.specs.declared.draft.Was.{Was}
-use Rattle.zb_forming.specs.declared.draft.Was.TheVariants.{Hole, Stored, New}
 use Rattle.zb_forming.specs.declared.draft.Draft.{Draft}
 use Rattle.zb_forming.specs.declared.draft.Drafts.{Drafts}
-use Rattle.zb_forming.specs.Drafts.{is_left, moved_by, later, moved_in, was_found, or_stood, stands, changes_of, cut_count, write_count, length_at, is_cut, draft_of}
+use Rattle.zb_forming.specs.Drafts.{is_left, moved_by, moved_in, was_found, or_stood, stands, cut_count, write_count, length_at, is_cut, draft_of}
 use Rattle.zb_forming.proofs.Moving.{moved-more, some-later, some-moved, change-some, Touched}
 
 or-false : (t : Bool) → (t || false) ≡ t

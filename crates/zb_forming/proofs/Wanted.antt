@@ -1,7 +1,7 @@
 -- The blocks that are wanted, read off from where blocks stand.
-use Rattle.std.proofs.Common.{◌≡◌, ℕ, zero, suc, ◌+◌, ◌-◌, ◌*◌, ◌/◌, ◌%◌, ◌<◌, ◌≤◌, Bool, true, false, not, List, [], ◌∷◌, ◌++◌, length, map, Option, Some, None, refl, sym, ap, ◌∙◌, subst, inl, inr, arith}
-use Rattle.std.specs.Prelude.{if◌then◌else◌, ◌==◌, ◌&&◌, ◌||◌, nat_lt, nat_le, is_some, All, Any}
-use Rattle.std.specs.List.{AllByRecursion, AllZip, range_with_len, flat_map}
+use Rattle.std.proofs.Common.{◌≡◌, ℕ, zero, suc, ◌+◌, ◌/◌, Bool, true, false, not, List, [], ◌∷◌, ◌++◌, length, map, Option, Some, None, refl, sym, ap, ◌∙◌}
+use Rattle.std.specs.Prelude.{if◌then◌else◌, ◌&&◌, ◌||◌, is_some}
+use Rattle.std.specs.List.{AllByRecursion, range_with_len, flat_map}
 use Rattle.zb_types.specs.declared.ids.Fid.{Fid}
 use Rattle.zb_types.specs.declared.ids.Ptr.{Ptr}
 use Rattle.zb_types.specs.declared.calls.Call.{Call}
@@ -10,7 +10,7 @@ use Rattle.zb_types.specs.declared.tables.Found.{Found}
 use Rattle.zb_types.specs.Keyed.{look}
 use Rattle.zb_basis.specs.declared.calls.Numbered.{Numbered}
 use Rattle.zb_basis.specs.Looking.{ask_of}
-use Rattle.zb_basis.specs.Operations.{blocks_in, is_done, is_longer}
+use Rattle.zb_basis.specs.Operations.{is_done, is_longer}
 use Rattle.zb_basis.specs.Wanting.{touches, has_other, wanted_at, wanted_of_write, wanted_of, wanted_behind, wanted_by}
 use Rattle.zb_forming.specs.declared.draft.Was.{Was}
 use Rattle.zb_forming.specs.declared.draft.Was.TheVariants.{Hole, Stored, New}

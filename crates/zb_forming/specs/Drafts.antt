@@ -1,9 +1,9 @@
 -- The operations of a batch before its blocks have addresses: which blocks each makes anew, and with which bytes.
-use Rattle.std.specs.Prelude.{ℕ, ◌<◌, ◌≤◌, ◌^◌, AllPairs, ◌+◌, ◌-◌, ◌*◌, ◌/◌, ◌%◌, Bool, true, false, not, ◌&&◌, ◌==◌, nat_lt, nat_le, if◌then◌else◌, List, [], ◌∷◌, ◌++◌, length, map, slice_get, Option, Some, None}
+use Rattle.std.specs.Prelude.{ℕ, ◌<◌, ◌≤◌, ◌^◌, AllPairs, ◌+◌, ◌-◌, ◌/◌, ◌%◌, Bool, true, false, ◌&&◌, ◌==◌, nat_lt, nat_le, if◌then◌else◌, List, [], ◌∷◌, ◌++◌, length, map, slice_get, Option, Some, None}
 use Rattle.std.specs.List.{range_with_len}
 use Rattle.zb_types.specs.declared.ids.Ptr.{Ptr}
 use Rattle.zb_types.specs.declared.calls.Call.{Call}
-use Rattle.zb_types.specs.declared.calls.Call.TheVariants.{Create, Mkdir, Remove, Rename, Write, Truncate, Sync, Read, List as ListOf, Stat, Find}
+use Rattle.zb_types.specs.declared.calls.Call.TheVariants.{Write, Truncate}
 use Rattle.zb_types.specs.declared.tables.Found.{Found}
 use Rattle.zb_types.specs.Keyed.{look}
 use Rattle.zb_types.specs.Tree.{or_none}

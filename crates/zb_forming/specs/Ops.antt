@@ -1,5 +1,5 @@
 -- The operations of a batch once its blocks have addresses.
-use Rattle.std.specs.Prelude.{ℕ, ◌^◌, ◌-◌, min, List, [], ◌∷◌, length, map, slice_get, Option, Some, None, IsTrue}
+use Rattle.std.specs.Prelude.{ℕ, List, [], ◌∷◌, length, map, slice_get, Option, Some, None, IsTrue}
 use Rattle.zb_types.specs.declared.ids.Fid.{Fid}
 use Rattle.zb_types.specs.declared.ids.LogId.{LogId}
 use Rattle.zb_types.specs.declared.ids.Ptr.{Ptr}

@@ -1,7 +1,6 @@
 -- What placing and sealing a batch gives.
-use Rattle.std.specs.Prelude.{◌≡◌, ℕ, ◌<◌, ◌≤◌, ◌++◌, true, List, length, map, All}
+use Rattle.std.specs.Prelude.{◌≡◌, ℕ, ◌<◌, ◌≤◌, ◌++◌, true, List, length, All}
 use Rattle.std.specs.List.{concat}
-use Rattle.zb_types.specs.declared.ids.Ptr.{Ptr}
 use Rattle.zb_types.specs.declared.nodes.Members.{Members}
 use Rattle.zb_types.specs.Apply.{is_update}
 use Rattle.zb_stripe.specs.Fresh.{HasRoom}

@@ -1,5 +1,6 @@
-ghost use Rattle.std.specs.Prelude.{◌≡◌, ◌+◌, ◌-◌, ◌*◌, ◌/◌, ◌<◌, ◌≤◌, ◌++◌, ◌∷◌, [], true, min, map, slice_index, IfOk, OnOk, All, AllPairs};
+ghost use Rattle.std.specs.Prelude.{◌≡◌, ◌+◌, ◌-◌, ◌*◌, ◌/◌, ◌<◌, ◌≤◌, ◌++◌, ◌∷◌, [], true, min, map, slice_get, slice_index, IfOk, OnOk, All, AllPairs};
 ghost use Rattle.std.specs.List.{range_with_len};
+ghost use Rattle.std.specs.Option.{option_copied};
 ghost use Rattle.zb_types.specs.Apply.{max_file};
 ghost use Rattle.zb_types.specs.Keyed.{look};
 ghost use Rattle.zb_basis.specs.Looking.{ask_of, room_of, AreFoundFor};
@@ -47,6 +48,16 @@ fn end_in(offset: u32, len: u32, length: u32) -> u32
     offset.saturating_add(len).min(length)
 }
 
+/// What was found first.
+fn first_found(found: &[Found]) -> Option<&Found>
+    ensures { option_copied result ≡ slice_get found.now 0 }
+{
+    match found {
+        [] => None,
+        [first, ..] => Some(first),
+    }
+}
+
 /// The old blocks that are wanted for a read, in order: those with bytes in its range, within the file.
 pub fn wanted_by_read(alloc: Global, geo: &Geometry, call: &Call, found: &[Found]) -> Mem<PtrList>
     requires { AreFoundFor geo.now.block (room_of geo.now.servers geo.now.fragment) (ask_of geo.now.block call.now ∷ []) found.now }
@@ -59,7 +70,7 @@ pub fn wanted_by_read(alloc: Global, geo: &Geometry, call: &Call, found: &[Found
     let Call::Read { offset, len, .. } = call else {
         return PtrList::new(alloc);
     };
-    let Some(found) = found.first() else {
+    let Some(found) = first_found(found) else {
         return PtrList::new(alloc);
     };
     if found.version == 0 {
@@ -103,28 +114,24 @@ fn part_of(
     fetched: &[Fetched],
     at: u32,
     end: u32,
-) -> Result<Vec<u8>, AllocError>
+) -> Mem<ByteList>
     requires some { 0 < block }
     requires rise { AllPairs (λ one other. one.0 < other.0) found.now.blocks }
-    requires one { end ≤ (at / block + 1) * block }
-    ensures { IfOk result (λ part. part.items ≡ bytes_in block (known fetched.now) found.now at end) }
+    requires order { at ≤ end }
+    requires one { end ≤ at / block * block + block }
+    ensures { IfOk result (λ part. part ≡ bytes_in block (known fetched.now) found.now at end) }
 {
-    let k = at / block;
-    let old = block_at(found, fetched, k);
-    let start = k as usize * block as usize;
-    bytes_at(
-        alloc,
-        old,
-        (at as usize).saturating_sub(start),
-        (end as usize).saturating_sub(start),
-    )
+    let old = block_at(found, fetched, at / block);
+    let low = (at % block) as usize;
+    let part = bytes_at(alloc, old, low, low + (end - at) as usize)?;
+    Ok(ByteList::of(part))
 }
 
 /// Where the block ends that a byte lies in, or the range.
 fn part_end(block: u32, at: u32, to: u32) -> u32
     requires some { 0 < block }
     requires below { at < to }
-    ensures one { result ≤ (at / block + 1) * block }
+    ensures one { result ≤ at / block * block + block }
     ensures further { at < result }
     ensures within { result ≤ to }
 {
@@ -149,7 +156,7 @@ fn range_bytes(
     let mut at = from;
     while at < to {
         let end = part_end(block, at, to);
-        let mut part = part_of(alloc, block, found, fetched, at, end)?;
+        let mut part = part_of(alloc, block, found, fetched, at, end)?.into_items();
         bytes.append(&mut part)?;
         at = end;
     }
@@ -166,7 +173,7 @@ pub fn read_file(alloc: Global, geo: &Geometry, call: &Call, basis: &Basis) -> M
     let Call::Read { offset, len, .. } = call else {
         unreachable!();
     };
-    let Some(found) = basis.found.get(0) else {
+    let Some(found) = first_found(basis.found.slice()) else {
         unreachable!();
     };
     if found.version == 0 {

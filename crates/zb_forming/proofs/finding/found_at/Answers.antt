@@ -1,4 +1,4 @@
-use Rattle.std.proofs.Common.{◌≡◌, ◌∙◌, sym, ap}
+use Rattle.std.proofs.Common.{◌∙◌, sym, ap}
 use Rattle.std.specs.Option.{option_copied}
 use Rattle.zb_forming.proofs.Looked.{look-at, found-some, found-other, found-none}
 use Rattle.zb_forming.proofs.finding.found_at.Goals as goal

@@ -1,4 +1,4 @@
-use Rattle.std.proofs.Common.{◌≡◌, ℕ, ◌<◌, ◌∙◌, sym, subst, ap, List, length, map}
+use Rattle.std.proofs.Common.{◌≡◌, ℕ, ◌<◌, ◌∙◌, subst, ap, List, length, map}
 use Rattle.std.specs.Prelude.{Err}
 use Rattle.zb_log.specs.declared.placed.LogFault.TheVariants.{Worn}
 use Rattle.zb_log.specs.Placing.{last_stripe}

@@ -1,5 +1,4 @@
-use Rattle.std.proofs.Common.{◌≡◌, ◌∙◌, sym, subst, ap, List, []}
-use Rattle.zb_types.specs.declared.ids.Ptr.{Ptr}
+use Rattle.std.proofs.Common.{◌∙◌, sym, subst, ap, []}
 use Rattle.zb_batch.specs.Batches.{IsSpellable}
 use Rattle.zb_batch.specs.Spelling.{meta_length}
 use Rattle.zb_basis.specs.Looking.{room_of}

@@ -1,4 +1,4 @@
-use Rattle.std.proofs.Common.{◌≡◌, ℕ, ◌<◌, ◌≤◌, ◌∙◌, sym, subst, List, length, map}
+use Rattle.std.proofs.Common.{ℕ, ◌<◌, ◌≤◌, ◌∙◌, sym, subst, List, length, map}
 use Rattle.std.specs.Prelude.{All, IfOk}
 use Rattle.zb_log.specs.Placing.{last_stripe}
 use Rattle.zb_log.specs.Logs.{laid_next}

@@ -1,4 +1,4 @@
-use Rattle.std.proofs.Common.{◌≡◌, ℕ, ◌-◌, ◌≤◌, max}
+use Rattle.std.proofs.Common.{◌≡◌, ◌-◌, ◌≤◌, max}
 use Rattle.zb_forming.specs.Drafts.{known}
 use Rattle.zb_forming.specs.Ranges.{bytes_in}
 use Rattle.zb_forming.proofs.reading.range_bytes.Given as goal

@@ -1,10 +1,8 @@
 use Rattle.std.proofs.Common.{◌≡◌, ◌+◌, ◌≤◌, sym, subst, false, List}
 use Rattle.std.specs.Prelude.{All}
-use Rattle.std.specs.List.{AllByRecursion}
 use Rattle.zb_types.specs.declared.ids.Ptr.{Ptr}
 use Rattle.zb_basis.specs.Looking.{asks_of, room_of}
 use Rattle.zb_basis.specs.Wanting.{Holds, wanted_by}
-use Rattle.zb_forming.specs.Wants.{wanted_after}
 use Rattle.zb_forming.proofs.Runs.{all-of, each-weaker}
 use Rattle.zb_forming.proofs.Wanted.{wanted-batch, wanted-each}
 use Rattle.zb_forming.proofs.Asked.{ordered, fine, held, ok-more, IsFine}

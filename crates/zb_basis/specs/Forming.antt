@@ -85,7 +85,6 @@ pub record IsStored (n f : ℕ) (log : SeenLog) (placed : Placed) (new : List �
   pub rise : StripesRise (flush_of log given placed new).parts
   pub end : end_with log.next (last_of (flush_of log given placed new).parts) ≡ placed.next
   pub requests : plan ≡ plan_requests n f out Client (flush_of log given placed new)
-
   -- each request is about a stripe of the batch
   pub about : All (λ asked. IsAbout log.next.stripe placed.next.stripe asked.1) plan
 
@@ -105,6 +104,7 @@ pub record IsFormed (n f b : ℕ) (log : SeenLog) (number : ℕ) (members : Memb
   pub ahead : All (LiesAhead log.next.stripe) formed.fresh.parts
   -- whichever bytes the log gave of its stripe
   pub stored : ForGiven log (IsStored n f log formed.sealed.placed (spelling_of_batch formed.sealed.batch ++ concat blocks) blocks (writers_out members.state) formed.fresh formed.plan)
+
 -- A batch of these calls goes above the last stripe that a log may have, where it would be placed next.
 pub record IsTooFar (b : ℕ) (log : SeenLog) (number : ℕ) (calls : List Numbered) (basis : Basis) : Type 0 where
   pub batch : Batch

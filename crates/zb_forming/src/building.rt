@@ -1,7 +1,5 @@
-ghost use Rattle.std.specs.Prelude.{◌≡◌, ◌+◌, ◌<◌, ◌≤◌, ◌^◌, ◌++◌, true, All, IfOk, length, map, slice_get};
+ghost use Rattle.std.specs.Prelude.{◌≡◌, ◌+◌, ◌<◌, ◌++◌, IfOk, length, slice_get};
 ghost use Rattle.std.specs.List.{AllByRecursion};
-ghost use Rattle.zb_types.specs.Apply.{is_update};
-ghost use Rattle.zb_batch.specs.Batches.{IsShaped};
 ghost use Rattle.zb_basis.specs.Operations.{short_length};
 ghost use Rattle.zb_forming.specs.Ops.{batch_made, delta_of, deltas_made, first_only, op_made, ops_made, or_no_ptr, ptr_of, HasPaths};
 

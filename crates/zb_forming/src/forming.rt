@@ -13,7 +13,7 @@ ghost use Rattle.zb_basis.specs.Looking.{asks_of, room_of, AreFoundFor};
 ghost use Rattle.zb_basis.specs.Operations.{short_length};
 ghost use Rattle.zb_basis.specs.Wanting.{wanted_by, AreFetched};
 ghost use Rattle.zb_basis.specs.Forming.{log_from, IsFormed, IsLaid, IsTooFar};
-ghost use Rattle.zb_forming.specs.Drafts.{Fits, IsOrdered};
+ghost use Rattle.zb_forming.specs.Drafts.{Fits};
 ghost use Rattle.zb_forming.specs.Ops.{batch_made};
 ghost use Rattle.zb_forming.specs.Sealing.{drafts_of, IsGiven, IsMade};
 

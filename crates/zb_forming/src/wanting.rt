@@ -1,9 +1,9 @@
-ghost use Rattle.std.specs.Prelude.{◌≡◌, ◌+◌, ◌<◌, ◌≤◌, ◌++◌, ◌∷◌, [], IfOk, OnOk, All, Some, length};
+ghost use Rattle.std.specs.Prelude.{◌≡◌, ◌+◌, ◌<◌, ◌≤◌, ◌++◌, IfOk, OnOk, All, Some};
 ghost use Rattle.std.specs.List.{AllByRecursion};
 ghost use Rattle.zb_basis.specs.Looking.{asks_of, room_of, AreFoundFor};
 ghost use Rattle.zb_basis.specs.Wanting.{has_other, wanted_by, Holds};
 ghost use Rattle.zb_forming.specs.Drafts.{no_drafts, IsOrdered};
-ghost use Rattle.zb_forming.specs.Wants.{found_where, listed, wanted_after, wanted_changes, wanted_for, wanted_where, noted};
+ghost use Rattle.zb_forming.specs.Wants.{found_where, listed, wanted_after, wanted_changes, wanted_for, wanted_where};
 
 use crate::draft::{Change, Drafts, Was};
 use crate::drafting::{draft_of, no_drafts};

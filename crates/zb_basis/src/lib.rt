@@ -7,6 +7,7 @@ mod basis;
 mod calls;
 mod delivering;
 mod laws;
+mod log_laws;
 mod merging;
 
 pub use asks::{Ask, ask_of, end_of};
@@ -16,4 +17,5 @@ pub use basis::{
 pub use calls::{Numbered, run_length};
 pub use delivering::stripe_of;
 pub use laws::merged_blocks_are_the_files;
+pub use log_laws::what_logs_gave;
 pub use merging::{cut_block, written_block};

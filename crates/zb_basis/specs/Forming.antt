@@ -39,9 +39,10 @@ readers_out Whole = None
 readers_out (Out server) = Some server
 readers_out (Mending server) = Some server
 
--- what stands at pointers is as many bytes as they name, and the blocks that a client has are what stands at theirs
+-- What stands at pointers, as a stripe's contents give it: at most as many bytes as a pointer names, fewer where the
+-- contents end before. The blocks that a client has are what stands at theirs.
 pub record Stand (bytes : Bytes) (fetched : List Fetched) (ptrs : List Ptr) (blocks : List (List ℕ)) : Type 0 where
-  pub lengths : (p : Ptr) → length (bytes p) ≡ p.len
+  pub short : (p : Ptr) → length (bytes p) ≤ p.len
   pub old : All (λ f. bytes f.ptr ≡ f.bytes) fetched
   pub new : AllZip (λ p block. bytes p ≡ block) ptrs blocks
 

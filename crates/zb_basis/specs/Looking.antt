@@ -7,7 +7,6 @@ use Rattle.zb_types.specs.declared.calls.Call.{Call}
 use Rattle.zb_types.specs.declared.calls.Call.TheVariants.{Create, Mkdir, Remove, Rename, Write, Truncate, Sync, Read, List as ListOf, Stat, Find}
 use Rattle.zb_types.specs.declared.tables.Found.{Found}
 use Rattle.zb_types.specs.Apply.{max_file}
-use Rattle.zb_log.specs.Placing.{last_stripe}
 use Rattle.zb_basis.specs.declared.asks.Ask.{Ask}
 use Rattle.zb_basis.specs.declared.calls.Numbered.{Numbered}
 
@@ -50,9 +49,8 @@ pub record IsFoundBlock (b room : ℕ) (ask : Ask) (entry : ℕ × Ptr) : Type 0
   pub some : 0 < entry.1.len
   pub fits : entry.1.len ≤ b
   pub within : entry.1.offset + entry.1.len ≤ room
-  pub stripe : entry.1.stripe ≤ last_stripe
 
--- what may be found for what was asked: blocks by rising numbers, and none of a file that is absent
+-- what may be found for what was asked: a version, a length that a file may have, and blocks by rising numbers
 pub record MayFind (b room : ℕ) (ask : Ask) (found : Found) : Type 0 where
   pub version : found.version ≤ 2 ^ 48
   pub blocks : All (IsFoundBlock b room ask) found.blocks

@@ -3,7 +3,7 @@ ghost use Rattle.zb_basis.specs.Delivering.{stripe_of};
 
 use zb_types::Request;
 
-/// The stripe that a request is about, 0 where it is about none.
+/// The stripe of the fragment that a request changes, 0 where it changes none.
 pub fn stripe_of(request: &Request) -> u64
     ensures { result ≡ stripe_of request.now }
 {
@@ -11,8 +11,7 @@ pub fn stripe_of(request: &Request) -> u64
         Request::Store { id, .. }
         | Request::Append { id, .. }
         | Request::Parity { id, .. }
-        | Request::Retrieve { id, .. }
         | Request::Delete { id } => id.stripe,
-        Request::Identify { .. } | Request::Fence { .. } => 0,
+        Request::Retrieve { .. } | Request::Identify { .. } | Request::Fence { .. } => 0,
     }
 }

@@ -9,6 +9,7 @@ mod delivering;
 mod laws;
 mod log_laws;
 mod merging;
+mod wanting_laws;
 
 pub use asks::{Ask, ask_of, end_of};
 pub use basis::{
@@ -19,3 +20,4 @@ pub use delivering::stripe_of;
 pub use laws::merged_blocks_are_the_files;
 pub use log_laws::what_logs_gave;
 pub use merging::{cut_block, written_block};
+pub use wanting_laws::wanted_blocks_were_found;

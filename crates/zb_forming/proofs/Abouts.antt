@@ -18,7 +18,7 @@ use Rattle.zb_log.specs.declared.places.Place.{Place}
 use Rattle.zb_log.specs.Places.{InOrder, end_of}
 use Rattle.zb_log.specs.Sealing.{IsPartOf}
 use Rattle.zb_basis.specs.Delivering.{stripe_of, IsAbout}
-use Rattle.zb_forming.proofs.Runs.{all-of, each-append}
+use Rattle.zb_basis.proofs.Each.{all-of, each-append}
 
 -- a request to a server is about a stripe between two
 abbrev pub Asks : ℕ → ℕ → ServerId × Request → Type 0

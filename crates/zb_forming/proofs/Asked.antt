@@ -1,16 +1,16 @@
 -- What is known of what lookups found, and of what was fetched.
-use Rattle.std.proofs.Common.{◌≡◌, ℕ, suc, ◌+◌, ◌<◌, ◌≤◌, Bool, true, false, List, [], ◌∷◌, length, refl, sym, ap, ◌∙◌, arith}
-use Rattle.std.specs.Prelude.{if◌then◌else◌, ◌==◌, ◌&&◌, Any, Result, Ok, Err, IfOk}
+use Rattle.std.proofs.Common.{◌≡◌, ℕ, ◌≤◌, Bool, true, false, List, [], ◌∷◌, length, refl, sym, ap, ◌∙◌, arith}
+use Rattle.std.specs.Prelude.{if◌then◌else◌, ◌==◌, ◌&&◌, Result, Ok, Err, IfOk}
 use Rattle.std.specs.List.{AllByRecursion}
 use Rattle.std.proofs.lemmas.Bool.{eq-eqb, eqb-true}
 use Rattle.zb_types.specs.declared.ids.Ptr.{Ptr}
 use Rattle.zb_types.specs.declared.tables.Found.{Found}
 use Rattle.zb_basis.specs.declared.asks.Ask.{Ask}
 use Rattle.zb_basis.specs.declared.basis.Fetched.{Fetched}
-use Rattle.zb_basis.specs.Looking.{IsFoundBlock, AreFoundFor}
-use Rattle.zb_basis.specs.Wanting.{AreFetched, Holds}
+use Rattle.zb_basis.specs.Looking.{AreFoundFor}
+use Rattle.zb_basis.specs.Wanting.{AreFetched}
+use Rattle.zb_basis.proofs.Each.{each-weaker}
 use Rattle.zb_forming.specs.Drafts.{is_same, known, IsOrdered}
-use Rattle.zb_forming.proofs.Runs.{each-of, each-weaker}
 
 -- ---- lookups
 
@@ -19,45 +19,6 @@ ordered b room [] [] are = tt
 ordered b room [] (found ∷ founds) are = absurd are
 ordered b room (ask ∷ asks) [] are = absurd are
 ordered b room (ask ∷ asks) (found ∷ founds) are = (record { rise = are.0.rise; version = are.0.version }, ordered b room asks founds are.1)
-
--- a pointer to bytes of a block, within its stripe
-pub record IsFine (b room : ℕ) (p : Ptr) : Type 0 where
-  pub some : 0 < p.len
-  pub fits : p.len ≤ b
-  pub within : p.offset + p.len ≤ room
-
--- each block that was found has such a pointer
-pub fine : (b room : ℕ) (asks : List Ask) (founds : List Found) → AreFoundFor b room asks founds → AllByRecursion (λ (found : Found). AllByRecursion (λ (e : ℕ × Ptr). IsFine b room e.1) found.blocks) founds
-fine b room [] [] are = tt
-fine b room [] (found ∷ founds) are = absurd are
-fine b room (ask ∷ asks) [] are = absurd are
-fine b room (ask ∷ asks) (found ∷ founds) are = (
-  each-weaker (IsFoundBlock b room ask) (λ (e : ℕ × Ptr). IsFine b room e.1) found.blocks (λ e is. record { some = is.some; fits = is.fits; within = is.within }) (each-of (IsFoundBlock b room ask) found.blocks are.0.blocks),
-  fine b room asks founds are.1,
-)
-
-pub any-here : {A : Type 0} (P : A → Type 0) (x : A) (xs : List A) → P x → Any P (x ∷ xs)
-any-here P x xs p = (0, x, omega arith, refl, p)
-
-pub any-there : {A : Type 0} (P : A → Type 0) (y : A) (xs : List A) → Any P xs → Any P (y ∷ xs)
-any-there P y xs (k, x, l, e, p) = (suc k, x, omega (arith, l), e, p)
-
--- each pointer that was found is held
-entries-held : (es : List (ℕ × Ptr)) → AllByRecursion (λ (e : ℕ × Ptr). Any (λ (entry : ℕ × Ptr). entry.1 ≡ e.1) es) es
-entries-held [] = tt
-entries-held (e ∷ es) = (
-  any-here (λ (entry : ℕ × Ptr). entry.1 ≡ e.1) e es refl,
-  each-weaker (λ (x : ℕ × Ptr). Any (λ (entry : ℕ × Ptr). entry.1 ≡ x.1) es) (λ (x : ℕ × Ptr). Any (λ (entry : ℕ × Ptr). entry.1 ≡ x.1) (e ∷ es)) es (λ x any. any-there (λ (entry : ℕ × Ptr). entry.1 ≡ x.1) e es any) (entries-held es),
-)
-
-pub held : (founds : List Found) → AllByRecursion (λ (found : Found). AllByRecursion (λ (e : ℕ × Ptr). Holds founds e.1) found.blocks) founds
-held [] = tt
-held (found ∷ founds) = (
-  each-weaker (λ (x : ℕ × Ptr). Any (λ (entry : ℕ × Ptr). entry.1 ≡ x.1) found.blocks) (λ (x : ℕ × Ptr). Holds (found ∷ founds) x.1) found.blocks
-      (λ x any. any-here (λ (f : Found). Any (λ (entry : ℕ × Ptr). entry.1 ≡ x.1) f.blocks) found founds any) (entries-held found.blocks),
-  each-weaker (λ (f : Found). AllByRecursion (λ (e : ℕ × Ptr). Holds founds e.1) f.blocks) (λ (f : Found). AllByRecursion (λ (e : ℕ × Ptr). Holds (found ∷ founds) e.1) f.blocks) founds
-      (λ f each. each-weaker (λ (e : ℕ × Ptr). Holds founds e.1) (λ (e : ℕ × Ptr). Holds (found ∷ founds) e.1) f.blocks (λ e any. any-there (λ (g : Found). Any (λ (entry : ℕ × Ptr). entry.1 ≡ e.1) g.blocks) found founds any) each) (held founds),
-)
 
 -- ---- what was fetched
 

@@ -18,13 +18,14 @@ use Rattle.zb_basis.specs.declared.calls.Numbered.{Numbered}
 use Rattle.zb_basis.specs.Looking.{ask_of}
 use Rattle.zb_basis.specs.Merging.{cut_block}
 use Rattle.zb_basis.specs.Operations.{is_done, new_ptrs}
+use Rattle.zb_basis.proofs.Each.{each-append}
 use Rattle.zb_forming.specs.declared.draft.Was.{Was}
 use Rattle.zb_forming.specs.declared.draft.Was.TheVariants.{Hole, Stored, New}
 use Rattle.zb_forming.specs.declared.draft.Change.{Change}
 use Rattle.zb_forming.specs.declared.draft.Drafts.{Drafts}
 use Rattle.zb_forming.specs.Drafts.{stands, change_at, changes_of, length_at, is_cut, cut_count, write_count, was_bytes, merged, made_by, draft_of, added, drafted, version_in, Fits}
 use Rattle.zb_forming.specs.Ops.{or_no_ptr, delta_of, deltas_made, op_made, ops_made}
-use Rattle.zb_forming.proofs.Runs.{each-append, each-at, each-range, get-behind, length-map, map-map_range, map-range_same, map-range_append}
+use Rattle.zb_forming.proofs.Runs.{each-at, each-range, get-behind, length-map, map-map_range, map-range_same, map-range_append}
 use Rattle.zb_forming.proofs.Covering.{written-fits, cut-fits, asked-facts}
 use Rattle.zb_forming.proofs.Batching.{new_drafts, only-same}
 

@@ -26,13 +26,14 @@ use Rattle.zb_basis.specs.Looking.{ask_of, asks_of, MayFind}
 use Rattle.zb_basis.specs.Operations.{short_length, unchanged}
 use Rattle.zb_basis.specs.Wanting.{wanted_by}
 use Rattle.zb_basis.specs.Forming.{IsBatchOf, IsLaid, IsFormed, IsTooFar}
+use Rattle.zb_basis.proofs.Each.{each-of, each-weaker}
+use Rattle.zb_basis.proofs.Found.{IsFine, fine, wanted-each}
 use Rattle.zb_forming.specs.declared.draft.Drafts.{Drafts}
 use Rattle.zb_forming.specs.Drafts.{known, no_drafts, Fits, IsOrdered}
 use Rattle.zb_forming.specs.Ops.{batch_made, HasPaths}
 use Rattle.zb_forming.specs.Sealing.{IsGiven, IsMade, drafts_of}
-use Rattle.zb_forming.proofs.Runs.{append-none, each-of, each-weaker, length-map}
-use Rattle.zb_forming.proofs.Asked.{ordered, fine, all-fetched, fetched-short, known-short, IsFine}
-use Rattle.zb_forming.proofs.Wanted.{wanted-each}
+use Rattle.zb_forming.proofs.Runs.{append-none, length-map}
+use Rattle.zb_forming.proofs.Asked.{ordered, all-fetched, fetched-short, known-short}
 use Rattle.zb_forming.proofs.Batching.{new_drafts, drafts-are, ops-are}
 use Rattle.zb_forming.proofs.Counting.{ptrs-are, ops-count, blocks-fit}
 use Rattle.zb_forming.proofs.Spelled.{spellable}
@@ -93,7 +94,7 @@ module _ (b room : ℕ) (calls : List Numbered) (basis : Basis) (given : IsGiven
     new = ptrs-are b (known basis.fetched) ptrs calls basis.found no_drafts refl same-count (sym (length-map (λ (p : Ptr). p.len) ptrs) ∙ ap length lens ∙ length-map length (drafts_of b calls basis).blocks);
     lens = lens;
     of_calls = λ bytes stand. ops-are b basis.fetched bytes ptrs (drafts_of b calls basis).blocks
-        (record { old = each-of (λ (f : Fetched). bytes f.ptr ≡ f.bytes) basis.fetched stand.old; lengths = stand.lengths; new = stand.new })
+        (record { old = each-of (λ (f : Fetched). bytes f.ptr ≡ f.bytes) basis.fetched stand.old; short = stand.short; lens = lens; new = stand.new })
         calls basis.found no_drafts unchanged (λ g k. false) (record {
           same_count = same-count;
           updates = updates;

@@ -1,5 +1,5 @@
 -- The operations that are made of drafts are those of the calls.
-use Rattle.std.proofs.Common.{◌≡◌, ℕ, ◌+◌, ◌-◌, ◌*◌, ◌/◌, ◌%◌, ◌<◌, ◌≤◌, Bool, true, false, List, [], ◌∷◌, ◌++◌, length, Some, refl, sym, ap, ◌∙◌, subst, inl, inr, arith}
+use Rattle.std.proofs.Common.{◌≡◌, ℕ, zero, suc, ◌+◌, ◌-◌, ◌*◌, ◌/◌, ◌%◌, ◌<◌, ◌≤◌, Bool, true, false, List, [], ◌∷◌, ◌++◌, length, map, Some, refl, sym, ap, ◌∙◌, subst, inl, inr, arith}
 use Rattle.std.specs.Prelude.{if◌then◌else◌, ◌&&◌, nat_lt, slice_get}
 use Rattle.std.specs.Bool.{MatchBool}
 use Rattle.std.specs.List.{AllByRecursion, AllZip, range_with_len}
@@ -19,6 +19,7 @@ use Rattle.zb_basis.specs.Looking.{ask_of}
 use Rattle.zb_basis.specs.Merging.{written_block, cut_block}
 use Rattle.zb_basis.specs.Operations.{Changed, stands_now, is_done, is_longer, block_bytes, IsDelta, IsWriteDelta, WriteDeltas, CutDeltas, OpIs}
 use Rattle.zb_basis.specs.Wanting.{has_other}
+use Rattle.zb_basis.proofs.Each.{look-each}
 use Rattle.zb_forming.specs.declared.draft.Was.{Was}
 use Rattle.zb_forming.specs.declared.draft.Was.TheVariants.{Hole, Stored, New}
 use Rattle.zb_forming.specs.declared.draft.Change.{Change}
@@ -26,7 +27,7 @@ use Rattle.zb_forming.specs.declared.draft.Drafts.{Drafts}
 use Rattle.zb_forming.specs.Drafts.{known, stands, change_at, changes_of, length_at, is_cut, cut_count, write_count, was_bytes, merged, made_by, draft_of, version_in}
 use Rattle.zb_forming.specs.Ops.{or_no_ptr, ptr_of, delta_of, deltas_made, first_only, op_made}
 use Rattle.zb_forming.specs.Wants.{wanted_changes, wanted_for, wanted_where, found_where}
-use Rattle.zb_forming.proofs.Runs.{zip-at, zip-range, get-front, get-behind, get-some, get-range, map-map_range, each-flat_range, each-front, look-each}
+use Rattle.zb_forming.proofs.Runs.{zip-at, zip-range, get-front, get-behind, get-some, get-range, map-map_range, each-flat_range, each-front}
 use Rattle.zb_forming.proofs.Wanted.{changes-flat}
 use Rattle.zb_forming.proofs.Asked.{is_fetched, known-is, known-none}
 use Rattle.zb_forming.proofs.Covering.{block-covered}
@@ -35,11 +36,22 @@ use Rattle.zb_forming.proofs.Shown.{Shows, stands-same, version-same, done-same,
 abbrev pub IsKnown : List Fetched → Ptr → Type 0
 IsKnown fetched p = is_fetched fetched p ≡ true
 
--- what stands at pointers: what was fetched, and the new blocks
+-- what stands at pointers: what was fetched, and the new blocks, which are as long as their pointers say
 pub record Stands (fetched : List Fetched) (bytes : Ptr → List ℕ) (ptrs : List Ptr) (all : List (List ℕ)) : Type 0 where
   pub old : AllByRecursion (λ (f : Fetched). bytes f.ptr ≡ f.bytes) fetched
-  pub lengths : (p : Ptr) → length (bytes p) ≡ p.len
+  pub short : (p : Ptr) → length (bytes p) ≤ p.len
+  pub lens : map (λ (p : Ptr). p.len) ptrs ≡ map length all
   pub new : AllZip (λ p block. bytes p ≡ block) ptrs all
+
+-- a new pointer is as long as its block
+len-at : (ptrs : List Ptr) (all : List (List ℕ)) (place : ℕ) (block : List ℕ) → map (λ (p : Ptr). p.len) ptrs ≡ map length all → slice_get all place ≡ Some block → (or_no_ptr (slice_get ptrs place)).len ≡ length block
+len-at [] [] place block lens e = absurd cc
+len-at [] (c ∷ all) place block lens e = absurd cc
+len-at (p ∷ ptrs) [] place block lens e = absurd cc
+len-at (p ∷ ptrs) (c ∷ all) zero block lens e = cc
+len-at (p ∷ ptrs) (c ∷ all) (suc place) block lens e = len-at ptrs all place block rest e where
+  rest : map (λ (q : Ptr). q.len) ptrs ≡ map length all
+  rest = cc
 
 module _ (b : ℕ) (fetched : List Fetched) (bytes : Ptr → List ℕ) (ptrs : List Ptr) (all : List (List ℕ)) (stand : Stands fetched bytes ptrs all) where
   -- a new block stands at its pointer
@@ -53,6 +65,11 @@ module _ (b : ℕ) (fetched : List Fetched) (bytes : Ptr → List ℕ) (ptrs : L
       let at = get-some blocks place l in
       there place at.0 (subst (λ xs. slice_get xs place ≡ Some at.0) front (get-front blocks rest place at.0 at.1)) ∙ sym (ap or_none at.1)
 
+  long-before : (blocks rest : List (List ℕ)) (place : ℕ) → blocks ++ rest ≡ all → place < length blocks → (or_no_ptr (slice_get ptrs place)).len ≡ length (or_none (slice_get blocks place))
+  long-before blocks rest place front l =
+      let at = get-some blocks place l in
+      len-at ptrs all place at.0 stand.lens (subst (λ xs. slice_get xs place ≡ Some at.0) front (get-front blocks rest place at.0 at.1)) ∙ sym (ap (λ o. length (or_none o)) at.1)
+
   -- ---- the old bytes of a block
 
   stored-write : (offset : ℕ) (text : List ℕ) (k : ℕ) (p : Ptr) → (has_other b offset (offset + length text) k (Some p) ≡ true → IsKnown fetched p) → p.len ≤ b
@@ -61,7 +78,7 @@ module _ (b : ℕ) (fetched : List Fetched) (bytes : Ptr → List ℕ) (ptrs : L
     | inl is ↦ ap (λ old. written_block b k old offset text) (known-is bytes fetched p stand.old is)
     | inr none ↦
         ap (λ old. written_block b k old offset text) (known-none fetched p none)
-        ∙ block-covered b k offset (bytes p) text (low none) (omega (arith, high none, stand.lengths p)) (omega (arith, short, stand.lengths p))
+        ∙ block-covered b k offset (bytes p) text (low none) (omega (arith, high none, stand.short p)) (omega (arith, short, stand.short p))
   ] where
     other : is_fetched fetched p ≡ false → has_other b offset (offset + length text) k (Some p) ≡ false
     other none = elim (cases_Bool (has_other b offset (offset + length text) k (Some p))) [ inl is ↦ absurd (clash (wants is) none) | inr is ↦ is ] where
@@ -94,7 +111,7 @@ module _ (b : ℕ) (fetched : List Fetched) (bytes : Ptr → List ℕ) (ptrs : L
   longer-same blocks rest n Hole front new = grind (arith, nat_tests)
   longer-same blocks rest n (Stored p) front new = refl
   longer-same blocks rest n (New place) front new =
-      ap (λ (l : ℕ). nat_lt 0 (n % b) && nat_lt (n % b) l) (sym (stand.lengths (or_no_ptr (slice_get ptrs place))) ∙ ap length (there-before blocks rest place front (new place refl)))
+      ap (λ (l : ℕ). nat_lt 0 (n % b) && nat_lt (n % b) l) (long-before blocks rest place front (new place refl))
 
   -- ---- an operation
 

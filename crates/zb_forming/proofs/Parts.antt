@@ -22,9 +22,10 @@ use Rattle.zb_basis.specs.declared.basis.Basis.{Basis}
 use Rattle.zb_basis.specs.Looking.{ask_of, AreFoundFor}
 use Rattle.zb_basis.specs.Forming.{Stand}
 use Rattle.zb_basis.specs.Reading.{file_bytes, ReplyOf}
+use Rattle.zb_basis.proofs.Each.{each-of}
 use Rattle.zb_forming.specs.Drafts.{known}
 use Rattle.zb_forming.specs.Ranges.{byte_of, bytes_in}
-use Rattle.zb_forming.proofs.Runs.{each-of, map-range_same, map-range_append}
+use Rattle.zb_forming.proofs.Runs.{map-range_same, map-range_append}
 use Rattle.zb_forming.proofs.Asked.{all-fetched, is_fetched, known-is, known-none}
 
 -- a place in a block
@@ -112,16 +113,7 @@ filter-look : (Q : Ptr → Type 0) (test : ℕ × Ptr → Bool) (k : ℕ) (p : P
 filter-look Q test k p [] e is all = absurd cc
 filter-look Q test k p (x ∷ es) e is all = filter-step Q test k p x es (x.0 == k) (test x) refl refl e is all (λ e all. filter-look Q test k p es e is all)
 
-filter-each_if : (Q : Ptr → Type 0) (x : ℕ × Ptr) (es : List (ℕ × Ptr)) (t : Bool) → Q x.1 → AllByRecursion Q (map (λ (e : ℕ × Ptr). e.1) es) → AllByRecursion Q (map (λ (e : ℕ × Ptr). e.1) (if t then x ∷ es else es))
-filter-each_if Q x es true q each = (q, each)
-filter-each_if Q x es false q each = each
-
--- each that is wanted was found
-pub filter-each : (Q : Ptr → Type 0) (test : ℕ × Ptr → Bool) (es : List (ℕ × Ptr)) → AllByRecursion (λ (e : ℕ × Ptr). Q e.1) es → AllByRecursion Q (map (λ (e : ℕ × Ptr). e.1) (filter test es))
-filter-each Q test [] each = tt
-filter-each Q test (x ∷ es) each = filter-each_if Q x (filter test es) (test x) each.0 (filter-each Q test es each.1)
-
-module _ (b : ℕ) (some : 0 < b) (fetched : List Fetched) (bytes : Ptr → List ℕ) (old : AllByRecursion (λ (f : Fetched). bytes f.ptr ≡ f.bytes) fetched) (lengths : (p : Ptr) → length (bytes p) ≡ p.len)
+module _ (b : ℕ) (some : 0 < b) (fetched : List Fetched) (bytes : Ptr → List ℕ) (old : AllByRecursion (λ (f : Fetched). bytes f.ptr ≡ f.bytes) fetched) (short : (p : Ptr) → length (bytes p) ≤ p.len)
     (found : Found) (from to : ℕ) (wants : AllByRecursion (λ (p : Ptr). is_fetched fetched p ≡ true) (wanted_in b from to found)) where
   behind-end : (x : ℕ) (p : Ptr) → from ≤ x → x < to → look (x / b) found.blocks ≡ Some p → is_fetched fetched p ≡ false → p.len ≤ x % b
   behind-end x p low high e none = elim (cases_lt (x % b) p.len) [
@@ -136,7 +128,7 @@ module _ (b : ℕ) (some : 0 < b) (fetched : List Fetched) (bytes : Ptr → List
   byte-known x None e low high = refl
   byte-known x (Some p) e low high = elim (cases_Bool (is_fetched fetched p)) [
     | inl is ↦ ap (λ xs. slice_index xs (x % b)) (known-is bytes fetched p old is)
-    | inr none ↦ ap (λ xs. slice_index xs (x % b)) (known-none fetched p none) ∙ sym (get_or_past (bytes p) (x % b) 0 (omega (arith, lengths p, behind-end x p low high e none)))
+    | inr none ↦ ap (λ xs. slice_index xs (x % b)) (known-none fetched p none) ∙ sym (get_or_past (bytes p) (x % b) 0 (omega (arith, short p, behind-end x p low high e none)))
   ]
 
   pub range-known : bytes_in b (known fetched) found from to ≡ bytes_in b bytes found from to
@@ -167,5 +159,5 @@ reply-is b room fid offset len (one ∷ []) found basis read some are here first
       same-file : one ≡ found → bytes_in b (known basis.fetched) found (min offset found.length) (min (offset + len) found.length) ≡ take len (drop offset (file_bytes b bytes one))
       same-file e =
           ap (λ (f : Found). bytes_in b (known basis.fetched) f (min offset f.length) (min (offset + len) f.length)) (sym e)
-          ∙ range-known b some basis.fetched bytes (each-of (λ (f : Fetched). bytes f.ptr ≡ f.bytes) basis.fetched stand.old) stand.lengths one (min offset one.length) (min (offset + len) one.length) wants
+          ∙ range-known b some basis.fetched bytes (each-of (λ (f : Fetched). bytes f.ptr ≡ f.bytes) basis.fetched stand.old) stand.short one (min offset one.length) (min (offset + len) one.length) wants
           ∙ read-bytes b bytes one offset len

@@ -1,7 +1,7 @@
 -- The blocks that are wanted, read off from where blocks stand.
 use Rattle.std.proofs.Common.{◌≡◌, ℕ, zero, suc, ◌+◌, ◌/◌, Bool, true, false, not, List, [], ◌∷◌, ◌++◌, length, map, Option, Some, None, refl, sym, ap, ◌∙◌}
 use Rattle.std.specs.Prelude.{if◌then◌else◌, ◌&&◌, ◌||◌, is_some}
-use Rattle.std.specs.List.{AllByRecursion, range_with_len, flat_map}
+use Rattle.std.specs.List.{range_with_len, flat_map}
 use Rattle.zb_types.specs.declared.ids.Fid.{Fid}
 use Rattle.zb_types.specs.declared.ids.Ptr.{Ptr}
 use Rattle.zb_types.specs.declared.calls.Call.{Call}
@@ -18,7 +18,6 @@ use Rattle.zb_forming.specs.declared.draft.Change.{Change}
 use Rattle.zb_forming.specs.declared.draft.Drafts.{Drafts}
 use Rattle.zb_forming.specs.Drafts.{moved_in, was_found, or_stood, stands, change_at, changes_of, cut_count, write_count, length_at, is_cut, draft_of, no_drafts}
 use Rattle.zb_forming.specs.Wants.{wanted_where, found_where, wanted_for, wanted_changes, noted, wanted_after}
-use Rattle.zb_forming.proofs.Runs.{each-append, look-each}
 use Rattle.zb_forming.proofs.Moving.{IsMoved, is-moved, Touched}
 use Rattle.zb_forming.proofs.Touching.{touched-more}
 
@@ -107,50 +106,6 @@ wanted-all b (call ∷ calls) [] s touched is = refl
 wanted-all b (call ∷ calls) (found ∷ founds) s touched is =
     (λ i. wanted-same b s found touched is call.call i
     ++ wanted-all b calls founds (noted b s call.call found) (λ g k. touched g k || touches b call.call found g k) (touched-more b s found touched is call.call) i)
-
--- ---- each wanted block was found
-
-module _ (Q : Ptr → Type 0) where
-  wanted-at_each : (t w : Bool) (o : Option Ptr) → ((p : Ptr) → o ≡ Some p → Q p) → AllByRecursion Q (wanted_at t w o)
-  wanted-at_each t w None is = tt
-  wanted-at_each t w (Some p) is = each-if (not t && w) where
-    each-if : (c : Bool) → AllByRecursion Q (if c then p ∷ [] else [])
-    each-if true = (is p refl, tt)
-    each-if false = tt
-
-  flat-each : (h : ℕ → List Ptr) (a n : ℕ) → ((x : ℕ) → AllByRecursion Q (h x)) → AllByRecursion Q (flat_map h (range_with_len a n))
-  flat-each h a zero each = tt
-  flat-each h a (suc n) each = each-append Q (h a) (flat_map h (range_with_len (a + 1) n)) (each a) (flat-each h (a + 1) n each)
-
-  each-done : (done : Bool) (xs : List Ptr) → AllByRecursion Q xs → AllByRecursion Q (if done then xs else [])
-  each-done true xs each = each
-  each-done false xs each = tt
-
-  wanted-of_each : (b : ℕ) (call : Call) (found : Found) (touched : ℕ → ℕ → Bool) → AllByRecursion (λ (e : ℕ × Ptr). Q e.1) found.blocks → AllByRecursion Q (wanted_of b call found touched)
-  wanted-of_each b (Write fid offset text) found touched each =
-      each-done (is_done found.version (offset + length text)) _
-      (flat-each (wanted_of_write b (touched fid.0) offset (offset + length text) found) (ask_of b (Write fid offset text)).first (ask_of b (Write fid offset text)).count
-      (λ k. wanted-at_each (touched fid.0 k) (has_other b offset (offset + length text) k (look k found.blocks)) (look k found.blocks) (λ p e. look-each Q k p found.blocks each e)))
-  wanted-of_each b (Truncate fid n) found touched each =
-      each-done (is_done found.version n) _
-      (wanted-at_each (touched fid.0 (n / b)) (is_longer b n (look (n / b) found.blocks)) (look (n / b) found.blocks) (λ p e. look-each Q (n / b) p found.blocks each e))
-  wanted-of_each b (Create path) found touched each = tt
-  wanted-of_each b (Mkdir path) found touched each = tt
-  wanted-of_each b (Remove path) found touched each = tt
-  wanted-of_each b (Rename path to) found touched each = tt
-  wanted-of_each b Sync found touched each = tt
-  wanted-of_each b (Read fid offset len) found touched each = tt
-  wanted-of_each b (ListOf path) found touched each = tt
-  wanted-of_each b (Stat path) found touched each = tt
-  wanted-of_each b (Find path) found touched each = tt
-
-  pub wanted-each : (b : ℕ) (calls : List Numbered) (founds : List Found) (touched : ℕ → ℕ → Bool)
-      → AllByRecursion (λ (found : Found). AllByRecursion (λ (e : ℕ × Ptr). Q e.1) found.blocks) founds → AllByRecursion Q (wanted_behind b calls founds touched)
-  wanted-each b [] founds touched each = tt
-  wanted-each b (call ∷ calls) [] touched each = tt
-  wanted-each b (call ∷ calls) (found ∷ founds) touched each =
-      each-append Q (wanted_of b call.call found touched) (wanted_behind b calls founds (λ g k. touched g k || touches b call.call found g k))
-      (wanted-of_each b call.call found touched each.0) (wanted-each b calls founds (λ g k. touched g k || touches b call.call found g k) each.1)
 
 -- what is wanted for a batch
 pub wanted-batch : (b : ℕ) (calls : List Numbered) (founds : List Found) (start all : List Ptr) (s : Drafts) → start ≡ [] → s ≡ no_drafts → all ≡ start ++ wanted_after b calls founds s → all ≡ wanted_by b calls founds

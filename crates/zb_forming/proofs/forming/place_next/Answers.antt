@@ -3,7 +3,7 @@ use Rattle.std.specs.Prelude.{All, IfOk}
 use Rattle.zb_log.specs.Placing.{last_stripe}
 use Rattle.zb_log.specs.Logs.{laid_next}
 use Rattle.zb_basis.specs.Forming.{IsLaid}
-use Rattle.zb_forming.proofs.Runs.{all-of}
+use Rattle.zb_basis.proofs.Each.{all-of}
 use Rattle.zb_forming.proofs.Joining.{lens-are, lens-fit, laid-of}
 use Rattle.zb_forming.proofs.forming.place_next.Goals as goal
 

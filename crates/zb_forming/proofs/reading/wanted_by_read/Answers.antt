@@ -6,9 +6,10 @@ use Rattle.zb_types.specs.declared.ids.Ptr.{Ptr}
 use Rattle.zb_types.specs.declared.tables.Found.{Found}
 use Rattle.zb_basis.specs.Looking.{ask_of, room_of}
 use Rattle.zb_basis.specs.Wanting.{reaches, wanted_in, Holds}
-use Rattle.zb_forming.proofs.Runs.{all-of, each-at, each-weaker}
-use Rattle.zb_forming.proofs.Asked.{fine, held, ok-more, IsFine}
-use Rattle.zb_forming.proofs.Parts.{filter-each}
+use Rattle.zb_basis.proofs.Each.{all-of, each-weaker}
+use Rattle.zb_basis.proofs.Found.{IsFine, filter-each, fine, held}
+use Rattle.zb_forming.proofs.Runs.{each-at}
+use Rattle.zb_forming.proofs.Asked.{ok-more}
 use Rattle.zb_forming.proofs.reading.wanted_by_read.Goals as goal
 
 pub returns-clause-found : goal.returns-clause-found

@@ -6,6 +6,7 @@ mod calling;
 mod client;
 mod committing;
 mod fetching;
+mod fitting;
 mod going;
 mod hearing;
 mod lines;

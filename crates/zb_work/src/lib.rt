@@ -3,9 +3,11 @@
 #![tactic(auto)]
 
 mod blocks;
+mod finding;
 mod work;
 
 pub use blocks::{ask_for_each, fill, next_missing, no_bytes, put, slots_of};
+pub use finding::{fits_batch, fits_read};
 pub use work::{
     Aim, Flushed, Step, Task, aim_of, is_commit, look, members_of, put_step, put_task, take_step,
 };

@@ -58,8 +58,6 @@ pub record IsBatchOf (b : ℕ) (log : LogId) (number : ℕ) (calls : List Number
   pub new : new_ptrs batch.ops ≡ ptrs
   pub lens : map (λ p. p.len) ptrs ≡ map length blocks
   pub of_calls : IsOfCalls b calls basis batch ptrs blocks
-  pub spelled : IsSpellable batch
-  pub whole : 1 ≤ number → IsBatch batch
 
 -- the log where a batch is placed: as it is, or behind this stripe
 abbrev pub log_from : SeenLog → Option ℕ → SeenLog
@@ -87,6 +85,8 @@ pub record IsStored (n f : ℕ) (log : SeenLog) (placed : Placed) (new : List �
   pub rise : StripesRise (flush_of log given placed new).parts
   pub end : end_with log.next (last_of (flush_of log given placed new).parts) ≡ placed.next
   pub requests : plan ≡ plan_requests n f out Client (flush_of log given placed new)
+  -- each request is about a stripe of the batch
+  pub about : All (λ asked. IsAbout log.next.stripe placed.next.stripe asked.1) plan
 
 -- A batch of these calls, with its number, for the members that its lookups showed: placed next in the log, its meta
 -- part before its blocks, and sealed, with the requests that store it.
@@ -94,6 +94,8 @@ pub record IsFormed (n f b : ℕ) (log : SeenLog) (number : ℕ) (members : Memb
   pub blocks : List (List ℕ)
   pub seen : formed.sealed.members ≡ members
   pub is_batch : IsBatchOf b log.log number calls basis formed.sealed.batch formed.sealed.placed.ptrs blocks
+  pub spelled : IsSpellable formed.sealed.batch
+  pub whole : 1 ≤ number → IsBatch formed.sealed.batch
   pub laid : IsLaid log (meta_length formed.sealed.batch) (map length blocks) formed.sealed.placed
   -- the log may go on behind it
   pub is_sealed : IsSealed log formed.sealed.placed formed.fresh
@@ -102,8 +104,6 @@ pub record IsFormed (n f b : ℕ) (log : SeenLog) (number : ℕ) (members : Memb
   pub ahead : All (LiesAhead log.next.stripe) formed.fresh.parts
   -- whichever bytes the log gave of its stripe
   pub stored : ForGiven log (IsStored n f log formed.sealed.placed (spelling_of_batch formed.sealed.batch ++ concat blocks) blocks (writers_out members.state) formed.fresh formed.plan)
-  -- each request is about a stripe of the batch
-  pub about : All (λ asked. IsAbout log.next.stripe formed.sealed.placed.next.stripe asked.1) formed.plan
 
 -- A batch of these calls goes above the last stripe that a log may have, where it would be placed next.
 pub record IsTooFar (b : ℕ) (log : SeenLog) (number : ℕ) (calls : List Numbered) (basis : Basis) : Type 0 where

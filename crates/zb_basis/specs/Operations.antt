@@ -1,5 +1,5 @@
 -- What the operations of a batch are: those of the client's calls, each against its file as the earlier ones leave it.
-use Rattle.std.specs.Prelude.{◌≡◌, ℕ, ◌+◌, ◌-◌, ◌/◌, ◌%◌, Bool, true, false, not, ◌&&◌, ◌==◌, nat_lt, nat_le, if◌then◌else◌, List, [], ◌∷◌, length, Option, Some, None}
+use Rattle.std.specs.Prelude.{◌≡◌, ℕ, ◌+◌, ◌-◌, ◌/◌, ◌%◌, Bool, true, false, not, ◌&&◌, ◌==◌, ◌^◌, min, nat_lt, nat_le, if◌then◌else◌, List, [], ◌∷◌, length, Option, Some, None}
 use Rattle.std.specs.Bool.{MatchBool}
 use Rattle.std.specs.List.{AllZip, range_with_len, flat_map}
 use Rattle.zb_types.specs.declared.ids.Fid.{Fid}
@@ -120,10 +120,14 @@ CutDeltas b bytes fid version n was deltas =
 abbrev pub is_of_names : Call → Bool
 is_of_names call = is_alone call && is_update call
 
+-- the length of a write as its operation has it: the greatest number of four bytes for one that is longer, and so too big
+abbrev pub short_length : ℕ → ℕ
+short_length n = min n (2 ^ 32 - 1)
+
 -- the operation is that of the call, for which this was looked up
 abbrev pub OpIs : ℕ → Bytes → Changed → ℕ → Call → Found → Op → Type 0
 OpIs b bytes changed number (Write fid offset text) found (op.Write call g version at len deltas) =
-    (call ≡ number) × (g ≡ fid) × (version ≡ version_now changed found fid) × (at ≡ offset) × (len ≡ length text)
+    (call ≡ number) × (g ≡ fid) × (version ≡ version_now changed found fid) × (at ≡ offset) × (len ≡ short_length (length text))
     × MatchBool (is_done version (offset + length text)) (WriteDeltas b bytes changed found fid version offset text deltas) (deltas ≡ [])
 OpIs b bytes changed number (Truncate fid n) found (op.Cut call g version m deltas) =
     (call ≡ number) × (g ≡ fid) × (version ≡ version_now changed found fid) × (m ≡ n)

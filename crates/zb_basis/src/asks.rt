@@ -1,4 +1,4 @@
-ghost use Rattle.std.specs.Prelude.{◌≡◌, ◌<◌, ◌≤◌, ◌^◌};
+ghost use Rattle.std.specs.Prelude.{◌≡◌, ◌+◌, ◌<◌, ◌≤◌, ◌^◌};
 ghost use Rattle.zb_basis.specs.Looking.{ask_range, end_of, ask_of};
 
 use zb_types::{Call, Fid, MAX_FILE};
@@ -18,7 +18,8 @@ pub struct Ask {
 /// The blocks that the bytes from `from` to before `to` lie in.
 fn ask_range(block: u32, fid: Fid, from: u32, to: u32) -> Ask
     requires some { 0 < block }
-    ensures { result ≡ ask_range block fid from to }
+    ensures exact { result ≡ ask_range block fid from to }
+    ensures small { result.first + result.count ≤ to }
 {
     if from >= to {
         return Ask {
@@ -50,7 +51,8 @@ pub fn end_of(offset: u32, len: usize) -> Option<u32>
 /// truncation ends in, and the blocks of a read.
 pub fn ask_of(block: u32, call: &Call) -> Ask
     requires { 0 < block }
-    ensures { result ≡ ask_of block call.now }
+    ensures exact { result ≡ ask_of block call.now }
+    ensures small { result.first + result.count < 2 ^ 32 }
 {
     match call {
         Call::Write { fid, offset, bytes } => match end_of(*offset, bytes.len()) {

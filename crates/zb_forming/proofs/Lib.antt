@@ -1,0 +1,15 @@
+pub mod Looked
+pub mod Runs
+pub mod Moving
+pub mod Touching
+pub mod Wanted
+pub mod Asked
+pub mod Covering
+pub mod Shown
+pub mod Operating
+pub mod Batching
+pub mod Counting
+pub mod Spelled
+pub mod Joining
+pub mod Abouts
+pub mod Parts

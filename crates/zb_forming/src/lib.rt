@@ -2,8 +2,13 @@
 //! requests that store them; and the reply to a read.
 #![tactic(auto)]
 
+mod building;
+mod draft;
+mod drafting;
+mod finding;
 mod forming;
 mod reading;
+mod standing;
 mod wanting;
 
 pub use forming::form;

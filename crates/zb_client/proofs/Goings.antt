@@ -1,6 +1,6 @@
 -- How a batch or a read goes on, told as what a client hears.
 use Rattle.std.specs.Bool.{MatchBool}
-use Rattle.std.proofs.Common.{◌≡◌, ℕ, ◌<◌, Bool, true, List, [], ◌∷◌, length, Option, Some, None, refl, ap, sym, subst, ◌∙◌, arith}
+use Rattle.std.proofs.Common.{◌≡◌, ℕ, ◌<◌, Bool, true, List, [], ◌∷◌, ◌++◌, length, Option, Some, None, refl, ap, sym, subst, ◌∙◌, arith}
 use Rattle.zb_types.specs.declared.ids.Ptr.{Ptr}
 use Rattle.zb_stripe.specs.Reading.{Reading, start}
 use Rattle.zb_basis.specs.declared.calls.Numbered.{Numbered}
@@ -9,6 +9,8 @@ use Rattle.zb_basis.specs.declared.basis.Formed.{Formed}
 use Rattle.zb_basis.specs.Runs.{run_of}
 use Rattle.zb_basis.specs.Forming.{IsFormed, readers_out}
 use Rattle.zb_work.specs.declared.work.Step.TheVariants.{Fetch as FetchStep}
+use Rattle.std.specs.List.{concat}
+use Rattle.zb_batch.specs.Spelling.{spelling_of_batch}
 use Rattle.zb_work.specs.Steps.{first_members}
 use Rattle.zb_types.specs.declared.tables.Found.{Found}
 use Rattle.zb_cache.specs.Entries.{SeenCache}
@@ -54,8 +56,18 @@ goes c basis n heard h e = goes_at c basis (next_missing basis.fetched) n heard 
 
 -- a batch that is formed may be stored
 pub may_store : (c : SeenClient) (basis : Basis) (formed : Formed) → c.doubted ≡ 0
-    → IsFormed c.servers c.fragment c.block (log_for c basis) c.batch (first_members basis.found) (run_of c.kept) basis formed → IsStoring (log_for c basis) c.kept c.doubted formed
-may_store c basis formed d f = record { settled = d; count = f.is_batch.count; sealed = f.is_sealed; about = f.about }
+    → IsFormed c.servers c.fragment c.block (log_for c basis) c.batch (first_members basis.found) (run_of c.kept) basis formed → IsStoring c.servers c.fragment (log_for c basis) c.kept c.doubted formed
+may_store c basis formed d f = record {
+  settled = d;
+  count = f.is_batch.count;
+  sealed = f.is_sealed;
+  about = λ given are. (f.stored given are).about;
+  flush = λ given are. record {
+    new = spelling_of_batch formed.sealed.batch ++ concat f.blocks;
+    is_fresh = (f.stored given are).is_fresh;
+    end = (f.stored given are).end;
+  };
+}
 
 may_all : (c : SeenClient) (basis : Basis) (kept : List Numbered) (n : Next) → Rests c.servers c.fragment c.block c.kept c.queue c.doubted basis → IsNextOfAll c basis kept n → MayGoOn c basis n
 may_all c basis [] (next.Fetch at ptr plan) r h = absurd h

@@ -8,7 +8,7 @@ use Rattle.zb_types.specs.declared.requests.Response.TheVariants as told
 use Rattle.zb_stripe.specs.declared.write.Fed.TheVariants as fed
 use Rattle.zb_stripe.specs.Feeding.{fed_by, left_after}
 use Rattle.zb_log.specs.Placing.{last_stripe}
-use Rattle.zb_log.specs.Logs.{SeenLog}
+use Rattle.zb_log.specs.Logs.{SeenLog, AreGiven}
 use Rattle.zb_basis.specs.Delivering.{IsAbout}
 use Rattle.zb_basis.specs.declared.basis.Formed.{Formed}
 use Rattle.zb_work.specs.Fitting.{IsStoring, IsBehind}
@@ -29,12 +29,13 @@ left_about first last (a ∷ rest) told.Down h = h
 left_about first last (a ∷ rest) told.Blank h = h
 
 -- without the request that was carried out the batch is still being stored
-pub storing_left : (log : SeenLog) (kept : List Numbered) (doubted : ℕ) (formed : Formed) (response : Response) → IsStoring log kept doubted formed → IsStoring log kept doubted (left formed response)
-storing_left log kept doubted formed response s = record {
+pub storing_left : (n f : ℕ) (log : SeenLog) (kept : List Numbered) (doubted : ℕ) (formed : Formed) (response : Response) → IsStoring n f log kept doubted formed → IsStoring n f log kept doubted (left formed response)
+storing_left n f log kept doubted formed response s = record {
   settled = s.settled;
   count = s.count;
   sealed = s.sealed;
-  about = left_about log.next.stripe formed.sealed.placed.next.stripe formed.plan response s.about;
+  about = λ given are. left_about log.next.stripe formed.sealed.placed.next.stripe formed.plan response (s.about given are);
+  flush = s.flush;
 }
 
 plan_behind : (log : SeenLog) (last g : ℕ) (plan : List (ServerId × Request)) (response : Response) → AreAbout log.next.stripe last plan → last ≤ last_stripe → (fed_by plan response ≡ fed.Done → ⊥)
@@ -50,7 +51,7 @@ plan_behind log last g (a ∷ rest) response h l n =
     }
 
 -- a flush of which a request was answered, and that didn't reach its end
-pub noted_behind : (log : SeenLog) (kept : List Numbered) (doubted : ℕ) (formed : Formed) (response : Response) (g stripe : ℕ) → IsStoring log kept doubted formed → stripe ≡ first_stripe formed.plan
+pub noted_behind : (n f : ℕ) (log : SeenLog) (kept : List Numbered) (doubted : ℕ) (formed : Formed) (response : Response) (g stripe : ℕ) (given : List ℕ) → AreGiven log given → IsStoring n f log kept doubted formed → stripe ≡ first_stripe formed.plan
     → (fed_by formed.plan response ≡ fed.Done → ⊥) → IsBehind log (record { generation = g; stripe = stripe; ended = false })
-noted_behind log kept doubted formed response g stripe s e n =
-    rw e (plan_behind log formed.sealed.placed.next.stripe g formed.plan response s.about s.sealed.is_placed.lasting n)
+noted_behind n f log kept doubted formed response g stripe given are s e not =
+    rw e (plan_behind log formed.sealed.placed.next.stripe g formed.plan response (s.about given are) s.sealed.is_placed.lasting not)

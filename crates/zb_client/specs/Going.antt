@@ -15,7 +15,7 @@ use Rattle.zb_basis.specs.declared.basis.Basis.{Basis}
 use Rattle.zb_types.specs.declared.nodes.Cause.TheVariants.{Down}
 use Rattle.zb_types.specs.declared.tables.MarkFault.{MarkFault}
 use Rattle.zb_stripe.specs.declared.flush.FreshFlush.{FreshFlush}
-use Rattle.zb_log.specs.Logs.{SeenLog, IsSealed}
+use Rattle.zb_log.specs.Logs.{SeenLog, ForGiven, IsSealed}
 use Rattle.zb_basis.specs.declared.basis.Sealed.{Sealed}
 use Rattle.zb_basis.specs.Runs.{run_of}
 use Rattle.zb_basis.specs.Forming.{IsFormed, readers_out}
@@ -25,7 +25,7 @@ use Rattle.zb_work.specs.declared.work.Step.{Step}
 use Rattle.zb_work.specs.declared.work.Step.TheVariants.{Fetch as FetchStep, Store, Mark}
 use Rattle.zb_work.specs.Steps.{with_step, first_members}
 use Rattle.zb_work.specs.Blocks.{next_missing}
-use Rattle.zb_work.specs.Fitting.{Rests, IsStoring, IsCommitting}
+use Rattle.zb_work.specs.Fitting.{Rests, IsNewOf, IsStoring, IsCommitting}
 use Rattle.zb_client.specs.declared.going.Next.{Next}
 use Rattle.zb_client.specs.declared.going.Next.TheVariants as next
 use Rattle.zb_client.specs.declared.fetching.Plain.{Plain}
@@ -66,7 +66,7 @@ goes_on c basis (next.Reply reply) = answers_read c (said.Reply reply)
 -- the work may go on so
 abbrev pub MayGoOn : SeenClient → Basis → Next → Type 0
 MayGoOn c basis (next.Fetch at ptr plan) = Rests c.servers c.fragment c.block c.kept c.queue c.doubted basis × (next_missing basis.fetched ≡ Some (at, ptr))
-MayGoOn c basis (next.Store formed) = IsStoring (log_for c basis) c.kept c.doubted formed
+MayGoOn c basis (next.Store formed) = IsStoring c.servers c.fragment (log_for c basis) c.kept c.doubted formed
 MayGoOn c basis (next.Reply reply) = Unit {0}
 
 -- a copy of the read that is under way was fed this response
@@ -159,6 +159,7 @@ abbrev pub hears_unmarked : SeenClient → Step → MarkFault → Heard
 hears_unmarked c step fault = hears_refusal_of c (marking step) fault
 
 -- a batch of the kept calls that was stored has its place next in the log, which may go on behind it
-pub record IsStored (log : SeenLog) (kept : List Numbered) (doubted : ℕ) (sealed : Sealed) (fresh : FreshFlush) : Type 0 where
+pub record IsFlushed (n f : ℕ) (log : SeenLog) (kept : List Numbered) (doubted : ℕ) (sealed : Sealed) (fresh : FreshFlush) : Type 0 where
   pub committing : IsCommitting kept doubted sealed
   pub sealed_in : IsSealed log sealed.placed fresh
+  pub flush : ForGiven log (IsNewOf n f log sealed.placed fresh)

@@ -6,9 +6,10 @@ use Rattle.zb_types.specs.declared.lines.Kind.{Kind}
 use Rattle.zb_types.specs.declared.lines.Kind.TheVariants as kind
 use Rattle.zb_types.specs.Apply.{is_update}
 use Rattle.zb_log.specs.Places.{place}
-use Rattle.zb_log.specs.Logs.{SeenLog}
+use Rattle.zb_log.specs.Logs.{SeenLog, AreGiven}
 use Rattle.zb_cache.specs.Entries.{SeenCache}
 use Rattle.zb_basis.specs.declared.calls.Numbered.{Numbered}
+use Rattle.zb_basis.specs.Looking.{room_of}
 use Rattle.zb_work.specs.declared.work.Task.{Task}
 use Rattle.zb_work.specs.declared.work.Step.{Step}
 use Rattle.zb_work.specs.declared.work.Flushed.{Flushed}
@@ -95,6 +96,7 @@ pub record IsLogOf (n f b : ℕ) (id : LogId) (log : SeenLog) : Type 0 where
   pub log_is : log.log ≡ id
   pub servers : log.servers ≡ n
   pub fragment : log.fragment ≡ f
+  pub room : log.room ≡ room_of n f
   pub block : log.block ≡ b
 
 -- What is true of each client: its log has the sizes of the system, and goes on behind its last flush; it keeps
@@ -106,6 +108,11 @@ pub record IsKept (n f b : ℕ) (id : LogId) (log : SeenLog) (kept queue : List 
   pub updates : All (λ call. is_update call.call ≡ true) kept
   pub in_doubt : doubted ≤ length kept
   pub work : TaskFits n f b log kept queue doubted task
+
+-- some bytes are those that the log gave of its stripe
+pub record HasGiven (log : SeenLog) : Type 0 where
+  pub given : List ℕ
+  pub are : AreGiven log given
 
 -- there is room for a line of each kept call and one more
 pub record HasRoom (kept : ℕ) (spare : Option (List Outcome)) (room : Option ℕ) : Type 0 where

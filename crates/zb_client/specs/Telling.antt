@@ -1,5 +1,5 @@
 -- What a step of a client leaves and tells.
-use Rattle.std.specs.Prelude.{ℕ, List, [], ◌∷◌, map, Option, Some, None}
+use Rattle.std.specs.Prelude.{ℕ, List, [], ◌∷◌, map, take, Option, Some, None}
 use Rattle.zb_types.specs.declared.nodes.Cause.{Cause}
 use Rattle.zb_types.specs.declared.calls.Reply.{Reply}
 use Rattle.zb_types.specs.declared.lines.Said.{Said}
@@ -59,9 +59,9 @@ reply_lines client (call ∷ calls) (reply ∷ replies) = CallLine client call.n
 reply_lines client [] replies = []
 reply_lines client (call ∷ calls) [] = []
 
--- every kept call is told to be unfinished, and ends with that
+-- every kept call is told to be unfinished, and ends with that; those in doubt stay kept until the doubt is over
 abbrev pub ends_all : SeenClient → Cause → Heard
-ends_all c cause = tells (record (resting c) { kept = []; doubted = 0 }) (unfinished_lines c.client cause c.kept)
+ends_all c cause = tells (record (resting c) { kept = take c.doubted c.kept }) (unfinished_lines c.client cause c.kept)
 
 -- the call that the work is for is told the cause; an update stays kept
 abbrev pub gives_up_aim : SeenClient → Aim → Cause → Heard

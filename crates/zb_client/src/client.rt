@@ -40,7 +40,7 @@ pub struct Client {
 
 impl Model for Client {
     ghost use Rattle.std.specs.Prelude.{is_some, length, option_map, vec_capacity};
-    ghost use Rattle.zb_client.specs.Seen.{SeenClient, IsKept, HasRoom};
+    ghost use Rattle.zb_client.specs.Seen.{SeenClient, IsKept, HasGiven, HasRoom};
 
     ghost Value = { SeenClient };
 
@@ -61,6 +61,7 @@ impl Model for Client {
     } };
 
     ghost invariant = { λ a. IsKept a.geo.servers a.geo.fragment a.geo.block a.log_id a.log a.kept.items a.queue.items a.task a.flushed a.doubted
+        × HasGiven a.log
         × HasRoom (length a.kept.items) (option_map (λ v. v.items) a.spare) (option_map (λ v. vec_capacity v) a.spare) };
 }
 

@@ -1,4 +1,4 @@
-ghost use Rattle.std.specs.Prelude.{◌≡◌, ◌+◌, ◌-◌, ◌*◌, ◌<◌, ◌≤◌, IfOk, IsErrOf, length, drop, true, Option, None, Some, All, IfSome};
+ghost use Rattle.std.specs.Prelude.{◌≡◌, ℕ, List, ◌+◌, ◌-◌, ◌*◌, ◌<◌, ◌≤◌, IfOk, IsErrOf, length, drop, true, Option, None, Some, All, IfSome};
 ghost use Rattle.zb_stripe.specs.Reading.{start};
 ghost use Rattle.zb_log.specs.declared.placed.LogFault.TheVariants.{Worn};
 ghost use Rattle.zb_log.specs.Placing.{last_stripe};
@@ -8,7 +8,7 @@ ghost use Rattle.zb_basis.specs.Forming.{log_from, readers_out};
 ghost use Rattle.zb_work.specs.Steps.{step_of, first_members};
 ghost use Rattle.zb_work.specs.Blocks.{next_missing, shifted};
 ghost use Rattle.zb_work.specs.Fitting.{FoundFor, wanted_for, Rests, StepFits, IsStoring, IsBehind};
-ghost use Rattle.zb_client.specs.Seen.{at_step};
+ghost use Rattle.zb_client.specs.Seen.{HasGiven, at_step};
 ghost use Rattle.zb_client.specs.Telling.{Heard, silent, looks_anew};
 ghost use Rattle.zb_client.specs.Hearing.{behind, log_for, CannotGo};
 ghost use Rattle.zb_client.specs.Going.{IsNext, IsNextOfAll, IsReplyFor, MayGoOn, goes_on};
@@ -49,6 +49,7 @@ fn renew(log: &mut LogBuf, flushed: &Option<Flushed>, generation: u64)
     requires { IfSome flushed.now (IsBehind log.old) }
     ensures renewed { log.new ≡ log_from log.old (behind flushed.now generation) }
     ensures behind { IfSome flushed.now (IsBehind log.new) }
+    ensures given { HasGiven log.old → HasGiven log.new }
 {
     if let Some(last) = behind(flushed, generation) {
         log.next_stripe(last);
@@ -151,7 +152,7 @@ impl Client {
 
     /// The batch is formed, and its requests stand.
     fn store(&mut self, basis: Basis, formed: Formed) -> Told
-        requires { IsStoring (log_for self.old basis) self.old.kept self.old.doubted formed }
+        requires { IsStoring self.old.servers self.old.fragment (log_for self.old basis) self.old.kept self.old.doubted formed }
         ensures { goes_on self.old basis (Next.Store formed) ≡ record { client = self.new; told = result } }
     {
         let generation = members_of(basis.found.slice()).generation;

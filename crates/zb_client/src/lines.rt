@@ -116,7 +116,7 @@ impl Client {
         }
     }
 
-    /// Each kept call is told to be unfinished, and ends with that.
+    /// Each kept call is told to be unfinished, and ends with that. Those in doubt stay kept until the doubt is over.
     fn end_all(&mut self, cause: Cause) -> Told
         requires { self.old.is_ready ≡ true }
         ensures { ends_all self.old cause ≡ record { client = self.new; told = result } }
@@ -124,8 +124,7 @@ impl Client {
         let lines = self.lines();
         let told = told_unfinished(lines, self.client, &self.kept, cause);
         put_task(&mut self.task, None);
-        self.kept.clear();
-        self.doubted = 0;
+        self.kept.truncate(self.doubted);
         told
     }
 

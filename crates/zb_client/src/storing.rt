@@ -9,7 +9,7 @@ ghost use Rattle.zb_client.specs.Telling.{Heard, silent};
 ghost use Rattle.zb_log.specs.Logs.{gone_on};
 ghost use Rattle.zb_client.specs.Answering.{CanStore};
 ghost use Rattle.zb_client.specs.Hearing.{HearsStore, HearsMark, first_stripe, stored, notes, noted, goes_on_storing, unreachable, hears_refusal};
-ghost use Rattle.zb_client.specs.Going.{marking, hears_unmarked, IsStored};
+ghost use Rattle.zb_client.specs.Going.{marking, hears_unmarked, IsFlushed};
 
 use crate::client::Client;
 use crate::steps::Told;
@@ -57,7 +57,7 @@ fn marking(task: &Option<Task>) -> Option<ServerId>
 impl Client {
     /// The batch is stored: the log goes on behind it, and it is to be committed.
     fn stored(&mut self, basis: Basis, sealed: Sealed, fresh: FreshFlush) -> Told
-        requires { IsStored self.old.log self.old.kept self.old.doubted sealed fresh }
+        requires { IsFlushed self.old.servers self.old.fragment self.old.log self.old.kept self.old.doubted sealed fresh }
         ensures { silent (record (at_step self.old (Step.Commit basis sealed)) {
           log = gone_on self.old.log sealed.placed.next fresh.parts;
           flushed = Some (record { generation = sealed.members.generation; stripe = sealed.placed.next.stripe; ended = true });
@@ -89,10 +89,12 @@ impl Client {
     /// Goes on with what a response made of a flush, while the work stands at a lookup.
     fn store_on(&mut self, basis: Basis, formed: Formed, response: &Response) -> Told
         requires ready { self.old.is_ready ≡ true }
-        requires fits { IsStoring self.old.log self.old.kept self.old.doubted formed }
+        requires fits { IsStoring self.old.servers self.old.fragment self.old.log self.old.kept self.old.doubted formed }
         ensures { goes_on_storing (notes self.old formed (fed_by formed.plan response.now)) basis formed response.now (fed_by formed.plan response.now)
             ≡ record { client = self.new; told = result } }
     {
+        // Names a field, so that what holds of the client's fields is known here.
+        let _ = &self.log;
         let Formed {
             sealed,
             fresh,

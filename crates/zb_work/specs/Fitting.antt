@@ -2,7 +2,10 @@
 use Rattle.std.specs.Prelude.{◌≡◌, ℕ, ◌+◌, ◌≤◌, true, List, [], ◌∷◌, length, All, Option, Some}
 use Rattle.zb_types.specs.declared.ids.Ptr.{Ptr}
 use Rattle.zb_types.specs.declared.tables.Found.{Found}
-use Rattle.zb_log.specs.Logs.{SeenLog, IsSealed}
+use Rattle.zb_log.specs.Logs.{SeenLog, ForGiven, IsSealed, flush_of, end_with, last_of}
+use Rattle.zb_log.specs.declared.placed.Placed.{Placed}
+use Rattle.zb_stripe.specs.declared.flush.FreshFlush.{FreshFlush}
+use Rattle.zb_stripe.specs.Fresh.{IsFreshFlush}
 use Rattle.zb_log.specs.Places.{place, IsUpTo}
 use Rattle.zb_log.specs.Placing.{last_stripe}
 use Rattle.zb_basis.specs.declared.calls.Numbered.{Numbered}
@@ -52,13 +55,20 @@ pub record IsFetching (n f b : ℕ) (kept queue : List Numbered) (doubted : ℕ)
   pub rests : Rests n f b kept queue doubted basis
   pub missing : next_missing basis.fetched ≡ Some (at, ptr)
 
+-- these are new of a flush behind the bytes that a log gave of its stripe, which ends where the log is to go on
+pub record IsNewOf (n f : ℕ) (log : SeenLog) (placed : Placed) (fresh : FreshFlush) (given : List ℕ) : Type 0 where
+  pub new : List ℕ
+  pub is_fresh : IsFreshFlush n f (flush_of log given placed new) fresh
+  pub end : end_with log.next (last_of (flush_of log given placed new).parts) ≡ placed.next
+
 -- a batch of the kept calls has its place next in the log, which may go on behind it, and the requests that are left are
 -- about stripes of the batch
-pub record IsStoring (log : SeenLog) (kept : List Numbered) (doubted : ℕ) (formed : Formed) : Type 0 where
+pub record IsStoring (n f : ℕ) (log : SeenLog) (kept : List Numbered) (doubted : ℕ) (formed : Formed) : Type 0 where
   pub settled : doubted ≡ 0
   pub count : length formed.sealed.batch.ops ≡ length (run_of kept)
   pub sealed : IsSealed log formed.sealed.placed formed.fresh
-  pub about : All (λ asked. IsAbout log.next.stripe formed.sealed.placed.next.stripe asked.1) formed.plan
+  pub about : ForGiven log (λ given. All (λ asked. IsAbout log.next.stripe formed.sealed.placed.next.stripe asked.1) formed.plan)
+  pub flush : ForGiven log (IsNewOf n f log formed.sealed.placed formed.fresh)
 
 -- a batch of the kept calls
 pub record IsCommitting (kept : List Numbered) (doubted : ℕ) (sealed : Sealed) : Type 0 where
@@ -69,7 +79,7 @@ pub record IsCommitting (kept : List Numbered) (doubted : ℕ) (sealed : Sealed)
 abbrev pub StepFits : ℕ → ℕ → ℕ → SeenLog → List Numbered → List Numbered → ℕ → Step → Type 0
 StepFits n f b log kept queue doubted Lookup = Unit {0}
 StepFits n f b log kept queue doubted (Fetch basis at ptr plan) = IsFetching n f b kept queue doubted basis at ptr
-StepFits n f b log kept queue doubted (Store basis formed) = IsStoring log kept doubted formed
+StepFits n f b log kept queue doubted (Store basis formed) = IsStoring n f log kept doubted formed
 StepFits n f b log kept queue doubted (Mark server generation) = doubted ≡ 0
 StepFits n f b log kept queue doubted (Commit basis sealed) = IsCommitting kept doubted sealed
 

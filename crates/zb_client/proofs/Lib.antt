@@ -1,0 +1,6 @@
+pub mod Again
+pub mod Finding
+pub mod Fits
+pub mod Goings
+pub mod Plain
+pub mod Stripes

@@ -1,0 +1,9 @@
+use Rattle.zb_client.proofs.Fits.{kept_pushed}
+use Rattle.zb_client.proofs.client.Client.push.Goals as goal
+
+pub invariant_of-self-2 : goal.invariant_of-self-2
+invariant_of-self-2 c = (
+  kept_pushed _ _ _ _ _ _ c.self.inside.queue.items _ (record { number = c.args.number; call = c.args.call }) _ _ _ c.self.invariant.0 c.in_ok-push_back.ensures.items,
+  c.self.invariant.1,
+  record { empty = tt; lines = tt },
+)

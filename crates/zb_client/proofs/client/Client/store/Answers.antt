@@ -1,0 +1,9 @@
+use Rattle.std.proofs.Common.{rules}
+use Rattle.zb_client.proofs.client.Client.store.Goals as goal
+
+pub invariant_of-self : goal.invariant_of-self
+invariant_of-self c = (
+  record { log_is = search rules; behind = search rules; updates = search rules; in_doubt = search rules; work = search rules },
+  c.renew.ensures.given c.self.invariant.1,
+  search rules,
+)

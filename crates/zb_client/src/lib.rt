@@ -1,0 +1,18 @@
+//! A client as a machine of single steps, without devices: what its next step wants of the servers or of the file
+//! manager, and what an answer makes of it.
+#![tactic(auto)]
+
+mod calling;
+mod client;
+mod committing;
+mod fetching;
+mod fitting;
+mod going;
+mod hearing;
+mod lines;
+mod steps;
+mod storing;
+mod wishing;
+
+pub use client::Client;
+pub use steps::{Answer, AskList, Lookup, ReplyList, Told, Turn, Wish};

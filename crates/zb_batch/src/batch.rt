@@ -75,7 +75,7 @@ fn none_alone(ops: &[Op]) -> bool
     ops.iter().all(|op| !is_alone(op))
 }
 
-fn is_company(ops: &[Op]) -> bool
+pub(crate) fn is_company(ops: &[Op]) -> bool
     ensures { result ≡ is_company ops.now }
 {
     match ops {

@@ -1,4 +1,4 @@
-ghost use Rattle.std.specs.Prelude.{◌≡◌, ◌+◌, ◌<◌, ◌^◌, length, sum_by};
+ghost use Rattle.std.specs.Prelude.{◌≡◌, ◌+◌, ◌<◌, ◌≤◌, ◌^◌, length, sum_by};
 ghost use Rattle.zb_batch.specs.Spelling.{deltas_of, delta_count};
 ghost use Rattle.zb_batch.specs.Reading.{paths_length, op_length};
 
@@ -7,18 +7,18 @@ use zb_delta::Delta;
 use zb_types::{Call, Path};
 
 /// How many bytes a delta takes.
-const DELTA: usize = 58;
+pub(crate) const LENGTH_OF_DELTA: usize = 58;
 
 fn path_len(path: &Path) -> usize
-    requires { length path.now < 2 ^ 32 }
-    ensures { result ≡ 2 + length path.now }
+    ensures length { result ≡ 2 + length path.now }
+    ensures short { result ≤ 1026 }
 {
     2 + path.slice().len()
 }
 
 fn paths_len(what: &Call) -> usize
-    requires { paths_length what.now < 2 ^ 32 }
-    ensures { result ≡ paths_length what.now }
+    ensures length { result ≡ paths_length what.now }
+    ensures short { result ≤ 2052 }
 {
     match what {
         Call::Create(path) | Call::Mkdir(path) | Call::Remove(path) => path_len(path),
@@ -27,26 +27,31 @@ fn paths_len(what: &Call) -> usize
     }
 }
 
-/// The deltas of an operation.
-fn deltas_of(op: &Op) -> &[Delta]
-    ensures { result.now ≡ deltas_of op.now }
-{
-    match op {
-        Op::Write { deltas, .. } | Op::Cut { deltas, .. } | Op::Clean { deltas } => deltas.slice(),
-        Op::Name { .. } | Op::Sync { .. } => &[],
+impl Op {
+    /// Its deltas, in order; none of a name operation or a sync.
+    pub fn deltas(&self) -> &[Delta]
+        ensures { result.now ≡ deltas_of self.now }
+    {
+        match self {
+            Op::Write { deltas, .. } | Op::Cut { deltas, .. } | Op::Clean { deltas } => {
+                deltas.slice()
+            }
+            Op::Name { .. } | Op::Sync { .. } => &[],
+        }
     }
 }
 
-fn op_len(op: &Op) -> usize
-    requires { op_length op.now < 2 ^ 32 }
+/// How many bytes an operation takes.
+pub(crate) fn op_len(op: &Op) -> usize
+    requires { length (deltas_of op.now) < 2 ^ 32 }
     ensures { result ≡ op_length op.now }
 {
     9 + match op {
         Op::Name { what, .. } => paths_len(what),
-        Op::Write { deltas, .. } => 24 + DELTA * deltas.len(),
-        Op::Cut { deltas, .. } => 20 + DELTA * deltas.len(),
+        Op::Write { deltas, .. } => 24 + LENGTH_OF_DELTA * deltas.len(),
+        Op::Cut { deltas, .. } => 20 + LENGTH_OF_DELTA * deltas.len(),
         Op::Sync { .. } => 0,
-        Op::Clean { deltas } => 4 + DELTA * deltas.len(),
+        Op::Clean { deltas } => 4 + LENGTH_OF_DELTA * deltas.len(),
     }
 }
 
@@ -69,7 +74,7 @@ pub(crate) fn count_deltas(ops: &[Op]) -> usize
 {
     let mut count = 0;
     for op in ops {
-        count += deltas_of(op).len();
+        count += op.deltas().len();
     }
     count
 }

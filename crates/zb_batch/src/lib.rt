@@ -2,6 +2,7 @@
 #![tactic(auto, unfolding(crate::specs::Spelling::op_text, crate::specs::Spelling::spelling_of_batch))]
 
 mod batch;
+mod checking;
 mod copies;
 mod header;
 mod laws;

@@ -18,7 +18,7 @@ pub(crate) enum Owner {
     Cleaner,
 }
 
-fn owns(owner: Owner, delta: &Delta) -> bool
+pub(crate) fn owns(owner: Owner, delta: &Delta) -> bool
     ensures { IsTrue result ↔ IsOwned owner delta.now }
 {
     match (owner, delta) {

@@ -15,7 +15,7 @@ use Rattle.zb_types.specs.declared.requests.StoreFault.{StoreFault}
 use Rattle.zb_types.specs.declared.requests.StoreFault.TheVariants.{Offset}
 use Rattle.zb_holding.specs.Fragments.{Fragment, share_fragment, parity_fragment}
 use Rattle.zb_holding.specs.Carrying.{same_frag, stands_after, appended}
-use Rattle.zb_slot_map.proofs.Names.{one_name}
+use Rattle.zb_holding.proofs.Keys.{same_frag-is}
 use Rattle.zb_slots.specs.Changing.{share_slot}
 use Rattle.zb_slots.specs.Filling.{body_of}
 use Rattle.zb_holding.specs.Rules.{stand_at}
@@ -108,5 +108,5 @@ pub left_still : (id : FragId) (place : ℕ) (bytes : List ℕ) (map : FragId �
 left_still id place bytes map stand q = by_case (same_frag id q) refl
   where
     by_case : (b : Bool) → same_frag id q ≡ b → (if b then stands_after (ask.Append id place bytes) (map q) else map q) ≡ map q
-    by_case true e = stands_still id place bytes (map q) (λ f is. stand f (ap map (one_name id q e) ∙ is))
+    by_case true e = stands_still id place bytes (map q) (λ f is. stand f (ap map (same_frag-is id q e) ∙ is))
     by_case false e = refl

@@ -19,7 +19,7 @@ use Rattle.zb_index.specs.Laws.{IsHeldAt}
 use Rattle.zb_index.specs.Seen.{spot_of}
 use Rattle.zb_slots.specs.Slots.{slots_in}
 use Rattle.zb_slots.specs.Holding.{map_of}
-use Rattle.zb_slot_map.proofs.Knowing.{same_stored}
+use Rattle.zb_index.proofs.Following.{same_full}
 use Rattle.zb_fragstore.specs.Seen.{SeenStore}
 use Rattle.zb_fragstore.specs.Seen.{is_share}
 use Rattle.zb_fragstore.specs.Changing.{IsOpen}
@@ -48,10 +48,10 @@ kind_shown : (n f : ℕ) (byte : ℕ → ℕ) (header : Option Header) → Stand
 kind_shown n f byte None stands stored e = absurd (cc e)
 kind_shown n f byte (Some Free) stands stored e = absurd (cc e)
 kind_shown n f byte (Some (Share id len)) stands stored e =
-    inl (subst (AsShare n) (same_stored (share_stored id (window byte 192 len)) stored e)
+    inl (subst (AsShare n) (same_full (share_stored id (window byte 192 len)) stored e)
     (record { below = stands.0; bytes = window byte 192 len; is = refl }))
 kind_shown n f byte (Some (Parity id turn len)) stands stored e =
-    inr (subst (AsParity n) (same_stored (parity_stored id turn (numbers_at byte 128 (n - 1)) (window byte 192 len)) stored e)
+    inr (subst (AsParity n) (same_full (parity_stored id turn (numbers_at byte 128 (n - 1)) (window byte 192 len)) stored e)
     (record { last = stands.0; lengths = numbers_at byte 128 (n - 1); count = length-numbers byte 128 (n - 1); bytes = window byte 192 len; is = refl }))
 
 kind : (geo : Geometry) (image : List ℕ) (slot : ℕ) (stored : Stored) → slots_in geo image slot ≡ full_slot stored → AsShare geo.servers stored ⊎ AsParity geo.servers stored

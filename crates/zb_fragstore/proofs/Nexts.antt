@@ -7,13 +7,13 @@ use Rattle.zb_types.specs.declared.requests.Request.TheVariants as ask
 use Rattle.zb_holding.specs.Fragments.{Fragment, share_fragment, parity_fragment}
 use Rattle.zb_holding.specs.Carrying.{same_frag, stands_after, appended}
 use Rattle.zb_slot_map.specs.Tidy.{put}
-use Rattle.zb_slot_map.proofs.Names.{one_name}
+use Rattle.zb_holding.proofs.Keys.{same_frag-is}
 use Rattle.zb_holding.specs.Rules.{map_after}
 
 -- a map in which a name stands for what a request leaves under it
 put_next : (id q : FragId) (request : Request) (fragment : Option Fragment) (map : FragId → Option Fragment) → fragment ≡ stands_after request (map id) → (b : Bool) → same_frag id q ≡ b
     → (if b then fragment else map q) ≡ (if b then stands_after request (map q) else map q)
-put_next id q request fragment map is true same = is ∙ ap (λ name. stands_after request (map name)) (one_name id q same)
+put_next id q request fragment map is true same = is ∙ ap (λ name. stands_after request (map name)) (same_frag-is id q same)
 put_next id q request fragment map is false same = refl
 
 pub next_store : (id : FragId) (bytes : List ℕ) (class : Class) (map : FragId → Option Fragment) → map id ≡ None

@@ -17,7 +17,8 @@ use Rattle.zb_slots.specs.Shown.{Says, AreShownBy}
 use Rattle.zb_index.specs.Twins.{AreOlder, AreFreed}
 use Rattle.zb_index.proofs.Counting.{once_same}
 use Rattle.zb_slots.proofs.Shows.{shown_says}
-use Rattle.zb_slot_map.proofs.Knowing.{same_stored, not_free}
+use Rattle.zb_index.proofs.Following.{same_full}
+use Rattle.zb_slot_map.proofs.Knowing.{not_free}
 use Rattle.zb_fragstore.specs.Ranges.{AreInRange}
 
 -- one of three turns, and bytes that fit
@@ -29,10 +30,10 @@ says_fit : (n f : ℕ) (header : Option Header) (slot : Slot) → ((h : Header) 
 says_fit n f None slot may says stored full = let no : bad_slot ≡ full_slot stored = sym says ∙ full in absurd (cc no)
 says_fit n f (Some Free) slot may says stored full = absurd (not_free stored (sym says ∙ full))
 says_fit n f (Some (Share id len)) slot may says stored full =
-    subst (Fits f) (same_stored (record { id = id; turn = 0; fragment = share_fragment says.bytes }) stored (sym says.is ∙ full))
+    subst (Fits f) (same_full (record { id = id; turn = 0; fragment = share_fragment says.bytes }) stored (sym says.is ∙ full))
     (record { turn = omega arith; size = omega (arith, says.size, (may (Share id len) refl).1) })
 says_fit n f (Some (Parity id turn len)) slot may says stored full =
-    subst (Fits f) (same_stored (record { id = id; turn = turn; fragment = parity_fragment says.lengths says.bytes }) stored (sym says.is ∙ full))
+    subst (Fits f) (same_full (record { id = id; turn = turn; fragment = parity_fragment says.lengths says.bytes }) stored (sym says.is ∙ full))
     (record { turn = (may (Parity id turn len) refl).1.0; size = omega (arith, says.size, (may (Parity id turn len) refl).1.1) })
 
 -- the index of slots whose fragments fit

@@ -1,5 +1,5 @@
 -- What an index that has changed makes of a store.
-use Rattle.std.proofs.Common.{◌≡◌, ℕ, Bool, true, false, if◌then◌else◌, List, length, Option, Some, IfSome, Result, Ok, Err, OnOk, ap, sym, ◌∙◌, subst}
+use Rattle.std.proofs.Common.{◌≡◌, ℕ, Bool, true, false, if◌then◌else◌, List, length, Option, Some, IfSome, Result, Ok, Err, OnOk, ap, refl, sym, ◌∙◌, subst}
 use Rattle.std.specs.Option.{option_map}
 use Rattle.zb_cell.specs.Cell.{following}
 use Rattle.zb_types.specs.declared.ids.FragId.{FragId}
@@ -9,7 +9,7 @@ use Rattle.zb_index.specs.Seen.{SeenIndex, spot_of}
 use Rattle.zb_index.specs.Changes.{IsPut, first_spot, lengthened, next_spot, FollowsFill, FollowsMove}
 use Rattle.zb_index.specs.Free.{IsLeast}
 use Rattle.zb_holding.specs.Carrying.{same_frag}
-use Rattle.zb_slot_map.proofs.Names.{same_name}
+use Rattle.zb_holding.proofs.Keys.{same_frag-of}
 use Rattle.zb_fragstore.specs.Seen.{SeenStore, ChangesLength, TakesLeastSlot}
 use Rattle.zb_fragstore.specs.Ranges.{AreInRange}
 use Rattle.zb_fragstore.specs.Taking.{TakesSlot, Lengthens, MovesSlot}
@@ -48,7 +48,7 @@ changes_length id put len old new rest is changed = record { fence = ap (λ (s :
 
 pub takes_least : (id : FragId) (slot : ℕ) (put : Spot) (old new : SeenStore) → IsLeast old.index.free slot → IsPut old.index new.index id (Some put) → put.slot ≡ slot → TakesLeastSlot id old new
 takes_least id slot put old new least changed is spot at =
-    let here : spot_of new.index id ≡ Some put = changed id ∙ ap (λ (b : Bool). if b then Some put else spot_of old.index id) (same_name id) in
+    let here : spot_of new.index id ≡ Some put = changed id ∙ ap (λ (b : Bool). if b then Some put else spot_of old.index id) (same_frag-of id id refl) in
     subst (IsLeast old.index.free) (sym is ∙ ap (λ (s : Spot). s.slot) (some_is put spot (sym here ∙ at))) least
 
 -- what holds holds where all went well

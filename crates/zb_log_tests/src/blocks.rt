@@ -39,33 +39,6 @@ fn store(blocks: &mut Blocks, alloc: Global, ptrs: &mut Vec<Ptr>, byte: u8, len:
 }
 
 #[test]
-fn blocks_follow_each_other(rt: HostRuntime) -> Result<(), Fail> {
-    let geo = Geometry::new(3, 1, 256, 64, 8)?;
-    let mut blocks = Blocks::new(rt.alloc(), &geo)?;
-    let first = [block(rt.alloc(), 1, 64)?, block(rt.alloc(), 2, 5)?];
-    let put = blocks.put(rt.alloc(), &first)?;
-    assert_eq!(rt; put.slice(), [ptr(0, 0, 64), ptr(0, 64, 5)].as_slice());
-    let second = [
-        block(rt.alloc(), 3, 1)?,
-        block(rt.alloc(), 4, 60)?,
-        block(rt.alloc(), 5, 2)?,
-        block(rt.alloc(), 6, 64)?,
-        block(rt.alloc(), 7, 33)?,
-    ];
-    let put = blocks.put(rt.alloc(), &second)?;
-    let ptrs = [
-        ptr(0, 69, 1),
-        ptr(0, 70, 60),
-        ptr(0, 130, 2),
-        ptr(0, 132, 64),
-        ptr(0, 196, 33),
-    ];
-    assert_eq!(rt; put.slice(), ptrs.as_slice());
-    blocks_stay();
-    Ok(())
-}
-
-#[test]
 fn blocks_are_got_back_over_many_stripes(rt: HostRuntime) -> Result<(), Fail> {
     for (servers, a_stripe) in [(3, 8), (4, 12), (16, 64)] {
         let geo = Geometry::new(servers, 1, 256, 64, 8)?;
@@ -81,5 +54,6 @@ fn blocks_are_got_back_over_many_stripes(rt: HostRuntime) -> Result<(), Fail> {
             assert_eq!(rt; bytes.slice(), [(i % 256) as u8; 60].as_slice());
         }
     }
+    blocks_stay();
     Ok(())
 }

@@ -6,11 +6,6 @@ pub mod Drafting
 pub mod Going
 pub mod Carrying
 pub mod Planned
-pub mod Raising
 pub mod Numbered
-pub mod Stripes
-pub mod LogPlaces
-pub mod Mapping
-pub mod Changes
 pub mod Preparing
 pub mod Folding

@@ -11,8 +11,8 @@ use Rattle.zb_types.specs.declared.tables.CommitFault.TheVariants.{Regen, Stale,
 use Rattle.zb_types.specs.Keyed.{look}
 use Rattle.zb_tables.specs.Tables.{Tables}
 use Rattle.zb_tables.specs.Taking.{IsAnswer, IsPiece, Sizes, below_mark, mark_of, or_else, regen_of, stripe_room}
-use Rattle.zb_manager.specs.HeldStripes.{EndFits}
-use Rattle.zb_manager.specs.Logs.{StripeFits}
+use Rattle.zb_log_tables.specs.HeldStripes.{EndFits}
+use Rattle.zb_log_tables.specs.Logs.{StripeFits}
 
 -- the room of a stripe has a number of four bytes
 pub small_stripe : (n f : ℕ) → n ≤ 16 → f ≤ 65536 → (n - 1) * f < 2 ^ 32

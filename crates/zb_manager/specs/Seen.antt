@@ -11,8 +11,8 @@ use Rattle.zb_tables.specs.Tables.{LogState, Tables}
 use Rattle.zb_tables.specs.Fold.{Shelf, shelf_of, done_ops, committed}
 use Rattle.zb_pointers.specs.Seen.{SeenPointers}
 use Rattle.zb_manager.specs.Managers.{SeenManager}
-use Rattle.zb_manager.specs.HeldStripes.{EndFits}
-use Rattle.zb_manager.specs.Logs.{StripeFits}
+use Rattle.zb_log_tables.specs.HeldStripes.{EndFits}
+use Rattle.zb_log_tables.specs.Logs.{StripeFits}
 use Rattle.zb_manager.specs.declared.work.Work.{Work}
 use Rattle.zb_manager.specs.declared.prepared.Prepared.{Prepared}
 use Rattle.zb_manager.specs.Works.{names_worked, files_worked, MayWork, RoomForWork, copied}

@@ -8,7 +8,6 @@ ghost use Rattle.zb_manager.specs.Cleanings.{LeadsTo, TakesMove, block_at, is_pl
 ghost use Rattle.zb_manager.specs.Plans.{IsMovePlan};
 ghost use Rattle.zb_manager.specs.Works.{movable_of};
 
-use crate::log::ReplyList;
 use crate::planning::Plan;
 use crate::work::Work;
 use crate::working::body_of;
@@ -16,6 +15,7 @@ use std::alloc::Global;
 use std::collections::BTreeMap;
 use zb_conflict::{Decision, decide, table_moves_blocks};
 use zb_delta::{Body, Delta, DeltaList};
+use zb_log_tables::ReplyList;
 use zb_pointers::{FileHead, Pointers};
 use zb_types::{Fid, Mem, NoMemory, Ptr};
 

@@ -4,18 +4,17 @@
 
 mod cleaning;
 mod drafts;
-mod held;
+mod fitting;
 mod laws;
-mod log;
-mod logs;
 mod manager;
 mod planning;
 mod prepared;
 mod reserving;
+mod values;
 mod work;
 mod working;
 
 pub use laws::a_prepared_batch_is_folded;
-pub use log::ReplyList;
 pub use manager::{Blocked, Manager};
 pub use prepared::Prepared;
+pub use zb_log_tables::ReplyList;

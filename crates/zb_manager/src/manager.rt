@@ -1,8 +1,9 @@
-ghost use Rattle.std.specs.Prelude.{◌≡◌, ◌≢◌, ◌≤◌, ◌<◌, ◌^◌, [], IfOk, IfErr, IsErrOf, OnOk, OnErr, option_map, Some, None};
+ghost use Rattle.std.specs.Prelude.{◌≡◌, ◌≢◌, ◌≤◌, ◌<◌, ◌^◌, ◌+◌, ◌↔◌, true, IsTrue, IsSomeAnd, [], IfOk, IfErr, IsErrOf, OnOk, OnErr, option_map, Some, None};
 ghost use Rattle.zb_types.specs.Names.{last_number};
 ghost use Rattle.zb_types.specs.declared.tables.CommitFault.TheVariants.{NoMemory as OutOfMemory};
 ghost use Rattle.zb_types.specs.Keyed.{look};
-ghost use Rattle.zb_tables.specs.Tables.{first_tables, risen as next_value};
+ghost use Rattle.zb_batch.specs.Batches.{IsBatch};
+ghost use Rattle.zb_tables.specs.Tables.{first_tables};
 ghost use Rattle.zb_tables.specs.Fold.{after_retire, attached, shelf_of, with_members};
 ghost use Rattle.zb_tables.specs.Taking.{IsAnswer, MayCommit, below_mark as first_below, commit_refusal, regen_of, stripe_room};
 ghost use Rattle.zb_tables.specs.Finding.{found, live, status, use_of};
@@ -15,12 +16,11 @@ ghost use Rattle.zb_manager.specs.Seen.{IsPrepared, IsReady, held_by, last_in, p
 
 use crate::cleaning::plan_moves;
 use crate::drafts::{StaleOp, plan_files};
-use crate::held::HeldTable;
-use crate::log::ReplyList;
-use crate::logs::LogTable;
+use crate::fitting::{all_point_within, are_pieces, is_count};
 use crate::planning::{Plan, plan_name};
 use crate::prepared::Prepared;
 use crate::reserving::room_for_work;
+use crate::values::{LAST_VALUE, risen};
 use crate::work::{Step, StepList, Work};
 use crate::working::{run_moves, run_steps};
 use std::alloc::Global;
@@ -29,6 +29,7 @@ use std::marker::Model;
 use zb_batch::{Batch, Op};
 use zb_conflict::{Decision, decide};
 use zb_delta::{Body, Delta, DeltaList};
+use zb_log_tables::{HeldTable, LogTable};
 use zb_names::Names;
 use zb_pointers::{FileHead, Pointers};
 use zb_types::{
@@ -36,24 +37,11 @@ use zb_types::{
     NoMemory, Piece, PieceList, Ptr, Reply, State, Status,
 };
 
-/// The last value of a number that rises.
-const LAST_VALUE: u64 = 281_474_976_710_656;
-
 /// What a lookup tells of a file that isn't there.
 const NO_FILE: FileHead = FileHead {
     version: 0,
     length: 0,
 };
-
-fn risen(number: u64) -> u64
-    ensures { result ≡ next_value number }
-{
-    if number < LAST_VALUE {
-        number + 1
-    } else {
-        number
-    }
-}
 
 /// Another client holds.
 #[derive(Clone, Copy, Debug, PartialEq, Eq)]
@@ -178,6 +166,36 @@ impl Manager {
                 ops,
             ),
         }
+    }
+
+    // Whether the batch comes from a log that lives, with the number after its last.
+    fn is_next(&self, batch: &Batch) -> bool
+        requires { 1 ≤ batch.now.number }
+        ensures { IsTrue result ↔ IsSomeAnd (look batch.now.log.0 self.now.tables.logs) (λ l. (l.live ≡ true) × (batch.now.number ≡ l.batch + 1)) }
+    {
+        match self.logs.find(batch.log) {
+            Some(log) => log.live && log.batch == batch.number - 1,
+            None => false,
+        }
+    }
+
+    /// Whether `prepare` may be asked: the batch, which has to be one that can be read back, comes from a log that lives,
+    /// with the number after its last; its new pointers and the pieces lie within stripes; and there are 1 to 4,093 pieces.
+    pub fn may_commit(&self, batch: &Batch, pieces: &[Piece]) -> bool
+        requires { IsBatch batch.now }
+        ensures { IsTrue result ↔ MayCommit self.now.sizes self.now.tables batch.now pieces.now }
+    {
+        let sizes = &self.sizes;
+        if !self.is_next(batch) {
+            return false;
+        }
+        if !all_point_within(sizes, batch.ops.slice()) {
+            return false;
+        }
+        if !is_count(pieces) {
+            return false;
+        }
+        are_pieces(sizes, pieces)
     }
 
     fn make_room(&mut self, alloc: Global, work: &Work, pieces: usize) -> Mem<()>

@@ -5,9 +5,9 @@ ghost use Rattle.zb_batch.specs.Batches.{IsNameCall};
 ghost use Rattle.zb_names.specs.Changing.{MayCarry, carried};
 ghost use Rattle.zb_manager.specs.Plans.{IsNamePlan, name_plan, removal};
 
-use crate::log::ReplyList;
 use crate::work::Work;
 use std::alloc::Global;
+use zb_log_tables::ReplyList;
 use zb_names::{Entry, NameFault, Names, Prepared as NameChange};
 use zb_types::{Call, Fid, Mem, NoMemory, Path, Reply};
 

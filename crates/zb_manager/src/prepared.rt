@@ -1,5 +1,5 @@
-use crate::log::ReplyList;
 use crate::work::Work;
+use zb_log_tables::ReplyList;
 use zb_types::{LogId, PieceList};
 
 /// A batch that can be committed without memory. Its replies go with it into the tables: who needs them behind `apply`

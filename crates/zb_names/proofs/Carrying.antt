@@ -1,5 +1,5 @@
 -- Prepared changes: what is refused by nothing may be carried out.
-use Rattle.std.proofs.Common.{◌≡◌, ℕ, suc, ◌+◌, ◌<◌, ◌≤◌, Bool, true, false, cond, not, ◌||◌, List, [], ◌∷◌, ◌++◌, length, Some, None, refl, sym, ap, subst, inl, inr, arith}
+use Rattle.std.proofs.Common.{◌≡◌, ℕ, suc, ◌+◌, ◌<◌, ◌≤◌, Bool, true, false, cond, not, ◌||◌, List, [], ◌∷◌, length, Some, None, refl, sym, ap, subst, inl, inr, arith}
 use Rattle.std.specs.Prelude.{nat_le}
 use Rattle.std.specs.List.{AllByRecursion, list_any, filter}
 use Rattle.std.specs.List.Sorted.{IsStrictlySortedBy}
@@ -16,7 +16,7 @@ use Rattle.zb_types.specs.Paths.{is_path}
 use Rattle.zb_types.specs.Names.{Entry, Names, directory, numbered, has, is_below, is_within, walk, when, max_names, last_number, name_refusal, name_effect, others, with_entry, with_entries}
 use Rattle.zb_names.specs.Sound.{IsTree, has_number}
 use Rattle.zb_names.specs.Answers.{refusal_of_move}
-use Rattle.zb_names.specs.Changing.{MayCarry, AreNew, carried, relocated, staying, within}
+use Rattle.zb_names.specs.Changing.{MayCarry, carried, relocated, staying, within}
 use Rattle.zb_names.proofs.Fronts.{first_parts}
 use Rattle.zb_names.proofs.Inserting.{sorted-with_entry, sorted-with_entries}
 use Rattle.zb_names.proofs.Movable.{can_move}
@@ -73,16 +73,6 @@ others-within path (e ∷ es) none =
     ]
 
 -- ---- entries put in one by one, the last first
-
-pub with_entries-push : (new : Entries) (last : List ℕ × Entry) (es : Entries) → with_entries (new ++ last ∷ []) es ≡ with_entries new (with_entry last.0 last.1 es)
-with_entries-push [] last es = refl
-with_entries-push (n ∷ new) last es = ap (with_entry n.0 n.1) (with_entries-push new last es)
-
-pub AreNew-push : (new : Entries) (last : List ℕ × Entry) (es : Entries) → AreNew (new ++ last ∷ []) es → (has last.0 es ≡ false) × AreNew new (with_entry last.0 last.1 es)
-AreNew-push [] last es are_new = (are_new.0, tt)
-AreNew-push (n ∷ new) last es are_new =
-    let more = AreNew-push new last es are_new.1 in
-    (more.0, (subst (λ s. has n.0 s ≡ false) (with_entries-push new last es) are_new.0, more.1))
 
 pub length-with_entry : (path : List ℕ) (entry : Entry) (es : Entries) → length (with_entry path entry es) ≡ length es + 1
 length-with_entry path entry [] = refl

@@ -1,21 +1,19 @@
 -- The names right behind a front, gathered from the map.
-use Rattle.std.proofs.Common.{◌≡◌, ℕ, ◌+◌, true, false, not, ◌&&◌, eqb, List, [], ◌∷◌, ◌++◌, length, drop, map, filter, refl, sym, ap, ◌∙◌, inl, inr}
-use Rattle.std.specs.List.{AllByRecursion, list_any}
+use Rattle.std.proofs.Common.{◌≡◌, ℕ, true, false, not, ◌&&◌, List, [], ◌∷◌, ◌++◌, length, drop, refl, sym, ap, ◌∙◌, inl, inr}
+use Rattle.std.specs.List.{AllByRecursion}
 use Rattle.std.specs.List.Sorted.{IsStrictlySortedBy}
 use Rattle.std.specs.declared.cmp.Ordering.TheVariants.{Less}
 use Rattle.std.specs.Ordering.{nat_cmp, is_le}
 use Rattle.std.specs.Cmp.Lexicographic.{slice_cmp}
 use Rattle.std.specs.Map.{keys_of}
-use Rattle.std.proofs.lemmas.List.{length-append}
 use Rattle.std.proofs.lemmas.Bool.{cases_Bool}
 use Rattle.zb_types.specs.Paths.{is_path}
-use Rattle.zb_types.specs.Names.{Entry, names_in}
+use Rattle.zb_types.specs.Names.{Entry}
 use Rattle.zb_names.specs.Shown.{begins_with}
 use Rattle.zb_names.specs.Listing.{IsFront, has_slash, name_of, names_behind}
 use Rattle.zb_names.specs.Placing.{from_start}
 use Rattle.zb_names.proofs.Behind.{from_start-kept, from_start-left, before_front}
 use Rattle.zb_names.proofs.NameParts.{name_behind}
-use Rattle.zb_names.proofs.Below.{begins-below}
 
 -- one path more
 pub names_behind-cons : (front path : List ℕ) (entry : Entry) (es : List (List ℕ × Entry)) → IsFront front → is_path path ≡ true → begins_with front path ≡ true
@@ -51,14 +49,6 @@ module _ (front : List ℕ) where
         | inr other ↦ rw other same
       ]
 
-  -- what holds of each entry holds of each from the front on
-  pub All-from : (P : List ℕ × Entry → Type 0) (es : List (List ℕ × Entry)) → AllByRecursion P es → AllByRecursion P (from_start front es)
-  All-from P [] all = tt
-  All-from P (e ∷ es) all = elim (cases_Bool (is_le (slice_cmp nat_cmp front e.0))) [
-    | inl le ↦ rw (from_start-kept front e es le) (all.0, All-from P es all.1)
-    | inr before ↦ rw (from_start-left front e es before) (All-from P es all.1)
-  ]
-
   pub le-from : (es : List (List ℕ × Entry)) → AllByRecursion (λ e. is_le (slice_cmp nat_cmp front e.0) ≡ true) (from_start front es)
   le-from [] = tt
   le-from (e ∷ es) = elim (cases_Bool (is_le (slice_cmp nat_cmp front e.0))) [
@@ -80,10 +70,3 @@ module _ (front : List ℕ) where
     | inl le ↦ rw (from_start-kept front e es le) (behind-from e.0 es rising.0, rising-from es rising.1)
     | inr before ↦ rw (from_start-left front e es before) (rising-from es rising.1)
   ]
-
--- the names behind the front of a directory are the names in it
-pub names_behind-in : (front path : List ℕ) (entries : List (List ℕ × Entry)) → front ≡ path ++ 47 ∷ [] → names_behind front entries ≡ names_in path entries
-names_behind-in front path entries same =
-    let long : length (path ++ 47 ∷ []) ≡ length path + 1 = length-append path (47 ∷ []) in
-    ap (λ f. names_behind f entries) same
-    ∙ (λ i. map (λ e. drop (long i) e.0) (filter (λ e. begins-below path e.0 i && not (list_any (λ b. eqb b 47) (drop (long i) e.0))) entries))

@@ -25,15 +25,6 @@ or_else (Some entry) other = Some entry
 pub bytes_eq_self : (path : List ℕ) → bytes_eq path path ≡ true
 bytes_eq_self path = (bytes_eq-Decides path path).1 refl
 
-pub bytes_eq_back : (p q : List ℕ) → bytes_eq p q ≡ bytes_eq q p
-bytes_eq_back p q = elim (cases_Bool (bytes_eq p q)) [
-  | inl same ↦ same ∙ sym ((bytes_eq-Decides q p).1 (sym ((bytes_eq-Decides p q).0 same)))
-  | inr apart ↦ elim (cases_Bool (bytes_eq q p)) [
-    | inl same ↦ absurd (false≢true (sym apart ∙ (bytes_eq-Decides p q).1 (sym ((bytes_eq-Decides q p).0 same))))
-    | inr other ↦ apart ∙ sym other
-  ]
-]
-
 -- ---- what is found
 
 pub has-with_entry : (path new : List ℕ) (entry : Entry) (es : List (List ℕ × Entry)) → has path (with_entry new entry es) ≡ (bytes_eq path new || has path es)

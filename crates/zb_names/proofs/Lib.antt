@@ -17,3 +17,4 @@ pub mod Renaming
 pub mod Movable
 pub mod Carrying
 pub mod Skipping
+pub mod Together

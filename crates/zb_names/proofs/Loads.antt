@@ -1,24 +1,21 @@
 -- Entries that are given: when they are a tree, and how they are gathered.
-use Rattle.std.proofs.Common.{◌≡◌, ℕ, zero, suc, ◌+◌, ◌<◌, length, get_or, take, ◌≤◌, Bool, true, false, List, [], ◌∷◌, ◌++◌, Option, Some, None, refl, sym, ap, ◌∙◌}
+use Rattle.std.proofs.Common.{◌≡◌, ℕ, ◌≤◌, Bool, true, List, [], ◌∷◌, ◌++◌, Option, Some, None, refl, ap}
 use Rattle.std.specs.Prelude.{is_none}
 use Rattle.std.specs.List.{AllByRecursion, list_all}
 use Rattle.std.specs.List.Sorted.{IsStrictlySortedBy}
-use Rattle.std.specs.declared.cmp.Ordering.TheVariants.{Less, Greater}
+use Rattle.std.specs.declared.cmp.Ordering.TheVariants.{Less}
 use Rattle.std.specs.Ordering.{nat_cmp, is_lt}
 use Rattle.std.specs.Cmp.Lexicographic.{slice_cmp}
 use Rattle.std.specs.Map.{keys_of}
-use Rattle.std.proofs.lemmas.List.{take_more}
 use Rattle.std.proofs.lemmas.Bool.{and_parts, and_from, false≢true}
 use Rattle.zb_types.specs.declared.calls.Refusal.{Refusal}
 use Rattle.zb_types.specs.Paths.{is_path}
-use Rattle.zb_types.specs.Names.{Entry, has, walk, with_entry}
+use Rattle.zb_types.specs.Names.{Entry, walk}
 use Rattle.zb_names.specs.declared.entries.Entry.{Entry as Given}
 use Rattle.zb_names.specs.Shown.{seen, listed}
 use Rattle.zb_names.specs.Sound.{IsTree, has_number}
 use Rattle.zb_names.specs.Loading.{paths_of, rise}
-use Rattle.zb_names.proofs.Below.{bytes_eq-cmp}
 use Rattle.zb_names.proofs.Inserting.{is_less, all_behind}
-use Rattle.zb_names.proofs.Finding.{less_back}
 
 pub sorted_from_rise : (paths : List (List ℕ)) → rise paths ≡ true → IsStrictlySortedBy (slice_cmp nat_cmp) paths
 unfolding IsStrictlySortedBy
@@ -39,25 +36,6 @@ rise_from_sorted (path ∷ (next ∷ more)) sorted = and_from (is_lt (slice_cmp 
 pub keys-listed : (list : List (List ℕ × Given)) → keys_of (listed list) ≡ paths_of list
 keys-listed [] = refl
 keys-listed (e ∷ list) = ap (λ paths. e.0 ∷ paths) (keys-listed list)
-
--- what comes last stands behind all that are there
-last_behind : (path : List ℕ) (es : List (List ℕ × Entry)) (last : List ℕ) (entry : Entry) → AllByRecursion (λ k. slice_cmp nat_cmp path k ≡ Less) (keys_of (es ++ (last, entry) ∷ [])) → slice_cmp nat_cmp path last ≡ Less
-last_behind path [] last entry all = all.0
-last_behind path (d ∷ es) last entry all = last_behind path es last entry all.1
-
--- so it isn't there
-pub has-last : (es : List (List ℕ × Entry)) (last : List ℕ) (entry : Entry) → IsStrictlySortedBy (slice_cmp nat_cmp) (keys_of (es ++ (last, entry) ∷ [])) → has last es ≡ false
-unfolding IsStrictlySortedBy
-has-last [] last entry sorted = refl
-has-last (e ∷ es) last entry sorted =
-    let behind : slice_cmp nat_cmp last e.0 ≡ Greater = less_back e.0 last Less (last_behind e.0 es last entry sorted.0) in
-    rw (bytes_eq-cmp last e.0, behind) (has-last es last entry sorted.1)
-
--- and goes to the end
-pub with_entry-last : (es : List (List ℕ × Entry)) (last : List ℕ) (entry : Entry) → IsStrictlySortedBy (slice_cmp nat_cmp) (keys_of (es ++ (last, entry) ∷ [])) → with_entry last entry es ≡ es ++ (last, entry) ∷ []
-unfolding IsStrictlySortedBy
-with_entry-last [] last entry sorted = refl
-with_entry-last (e ∷ es) last entry sorted = rw (last_behind e.0 es last entry sorted.0) (ap (λ more. e ∷ more) (with_entry-last es last entry sorted.1))
 
 -- each walk refuses nothing
 is_none-none : (o : Option Refusal) → is_none o ≡ true → o ≡ None
@@ -86,25 +64,9 @@ test_from_files next (e ∷ list) h = and_from (has_number next (seen e.1)) (lis
 
 -- ---- the first of what is given
 
-all_less-take : (path : List ℕ) (n : ℕ) (list : List (List ℕ × Given)) → AllByRecursion (λ p. slice_cmp nat_cmp path p ≡ Less) (keys_of (listed list)) → AllByRecursion (λ p. slice_cmp nat_cmp path p ≡ Less) (keys_of (listed (take n list)))
-all_less-take path zero list all = tt
-all_less-take path (suc n) [] all = tt
-all_less-take path (suc n) (e ∷ list) all = (all.0, all_less-take path n list all.1)
-
-pub sorted-take : (n : ℕ) (list : List (List ℕ × Given)) → IsStrictlySortedBy (slice_cmp nat_cmp) (keys_of (listed list)) → IsStrictlySortedBy (slice_cmp nat_cmp) (keys_of (listed (take n list)))
-unfolding IsStrictlySortedBy
-sorted-take zero list sorted = tt
-sorted-take (suc n) [] sorted = tt
-sorted-take (suc n) (e ∷ list) sorted = (all_less-take e.0 n list sorted.0, sorted-take n list sorted.1)
-
 pub listed-append : (xs ys : List (List ℕ × Given)) → listed (xs ++ ys) ≡ listed xs ++ listed ys
 listed-append [] ys = refl
 listed-append (x ∷ xs) ys = ap (λ more. (x.0, seen x.1) ∷ more) (listed-append xs ys)
-
--- one more of what is given
-pub listed-more : (list : List (List ℕ × Given)) (i : ℕ) (given : List ℕ × Given) → i < length list → given ≡ get_or list i given → listed (take (i + 1) list) ≡ listed (take i list) ++ (given.0, seen given.1) ∷ []
-listed-more list i given within here =
-    ap listed (take_more list i given within ∙ ap (λ e. take i list ++ e ∷ []) (sym here)) ∙ listed-append (take i list) (given ∷ [])
 
 -- ---- what is given as a tree
 

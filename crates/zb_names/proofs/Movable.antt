@@ -1,30 +1,22 @@
 -- What refuses a renaming.
 use Rattle.std.proofs.Common.{◌≡◌, ℕ, ◌+◌, ◌-◌, ◌≤◌, Bool, true, false, not, ◌||◌, List, [], ◌∷◌, ◌++◌, length, drop, Option, Some, None, refl, sym, ap, subst, ◌∙◌, inl, inr}
 use Rattle.std.specs.Prelude.{nat_lt}
-use Rattle.std.specs.List.{AllByRecursion, list_any}
 use Rattle.std.specs.Str.{bytes_eq}
 use Rattle.std.proofs.lemmas.List.{length-append, length-drop, append-nil}
-use Rattle.std.proofs.lemmas.Bool.{cases_Bool, le-ltb, not-false, false≢true}
+use Rattle.std.proofs.lemmas.Bool.{cases_Bool, le-ltb, not-false}
 use Rattle.std.proofs.lemmas.Slice.Eq.{bytes_eq-Decides}
 use Rattle.std.proofs.Math.Seq.{drop-length}
 use Rattle.zb_types.specs.declared.calls.Refusal.{Refusal}
 use Rattle.zb_types.specs.declared.calls.Refusal.TheVariants.{NoEntry, Exists, Inside, TooBig}
 use Rattle.zb_types.specs.Paths.{is_path}
-use Rattle.zb_types.specs.Names.{Entry, directory, numbered, find, has, is_dir, is_below, walk, first, when, max_path}
+use Rattle.zb_types.specs.Names.{Entry, find, has, is_below, walk, first, when, max_path}
 use Rattle.zb_names.specs.Answers.{gets_too_long, refusal_of_move}
 use Rattle.zb_names.specs.Changing.{any_too_long, below}
 use Rattle.zb_names.specs.Sound.{IsTree}
 use Rattle.zb_names.proofs.Fronts.{first_parts}
 use Rattle.zb_names.proofs.Refusals.{first_some, second_some, second_none, when_true, when_false, refusal_behind}
 use Rattle.zb_names.proofs.Renaming.{CanMove}
-use Rattle.zb_names.proofs.Trees.{nothing_below_file}
 use Rattle.zb_names.proofs.Within.{not_below_itself}
-
--- only a directory has paths below it
-pub nothing_below_other : (path : List ℕ) (entry : Entry) (all : List (List ℕ × Entry)) → is_path path ≡ true → find path all ≡ Some entry → AllByRecursion (λ e. walk all e.0 ≡ None) all → is_dir (Some entry) ≡ false
-    → list_any (λ e. is_below path e.0) all ≡ false
-nothing_below_other path directory all is found hanging other = absurd (false≢true (sym other))
-nothing_below_other path (numbered n) all is found hanging other = nothing_below_file path n all all is found hanging
 
 -- ---- too long a path
 

@@ -1,8 +1,8 @@
 -- Where a path stands among others that rise: what is found there, put in and taken out.
-use Rattle.std.proofs.Common.{◌≡◌, ℕ, zero, suc, ◌+◌, ◌<◌, ◌≤◌, Bool, true, false, cond, List, [], ◌∷◌, ◌++◌, length, get_or, take, drop, Some, None, refl, sym, ap, subst, ◌∙◌, inl, inr, arith}
-use Rattle.std.specs.List.{AllByRecursion, filter, insert, remove}
+use Rattle.std.proofs.Common.{◌≡◌, ℕ, zero, suc, ◌+◌, ◌<◌, ◌≤◌, true, false, cond, List, [], ◌∷◌, ◌++◌, length, get_or, take, drop, Some, None, refl, sym, ap, ◌∙◌, inl, inr, arith}
+use Rattle.std.specs.List.{AllByRecursion, insert, remove}
 use Rattle.std.specs.Prelude.{Result, Ok, Err, OnErr, is_ok, slice_get}
-use Rattle.std.specs.List.Sorted.{IsStrictlySortedBy}
+use Rattle.std.specs.List.Sorted.{IsStrictlySortedBy, IsPartitionedBy, IsPartitionPoint}
 use Rattle.std.specs.declared.cmp.Ordering.{Ordering}
 use Rattle.std.specs.declared.cmp.Ordering.TheVariants.{Less, Equal, Greater}
 use Rattle.std.specs.Ordering.{nat_cmp, is_lt, is_le, is_eq}
@@ -35,86 +35,13 @@ AllLess path ps = AllByRecursion (λ p. is_less p path ≡ true) ps
 abbrev pub NoneLess : List ℕ → Paths → Type 0
 NoneLess path ps = AllByRecursion (λ p. is_less p path ≡ false) ps
 
-is_Less : (o : Ordering) → is_lt o ≡ true → o ≡ Less
+pub is_Less : (o : Ordering) → is_lt o ≡ true → o ≡ Less
 is_Less Less h = refl
 is_Less Equal h = absurd (false≢true h)
 is_Less Greater h = absurd (false≢true h)
 
 less_trans : (a b c : List ℕ) → slice_cmp nat_cmp a b ≡ Less → is_less b c ≡ true → is_less a c ≡ true
 less_trans a b c less more = ap is_lt (nat_list_cmp_total.trans a b c less (is_Less _ more))
-
--- what stands behind what isn't less isn't less
-none_less : (path next : List ℕ) (ps : Paths) → is_less next path ≡ false → AllByRecursion (λ p. slice_cmp nat_cmp next p ≡ Less) ps → NoneLess path ps
-none_less path next [] not_less all = tt
-none_less path next (p ∷ ps) not_less all = (one, none_less path next ps not_less all.1)
-  where
-    one : is_less p path ≡ false
-    one = elim (cases_Bool (is_less p path)) [
-      | inl less ↦ absurd (false≢true (sym not_less ∙ less_trans next p path all.0 less))
-      | inr other ↦ other
-    ]
-
-less_at : (first : List ℕ) (ps : Paths) (i : ℕ) (d : List ℕ) → AllByRecursion (λ p. slice_cmp nat_cmp first p ≡ Less) ps → i < length ps → slice_cmp nat_cmp first (get_or ps i d) ≡ Less
-less_at first [] i d all lt = absurd (omega arith)
-less_at first (p ∷ ps) zero d all lt = all.0
-less_at first (p ∷ ps) (suc i) d all lt = less_at first ps i d all.1 (omega arith)
-
--- where a path is less, so are those before it
-pub less_up_to : (path : List ℕ) (ps : Paths) (i : ℕ) (d : List ℕ) → IsStrictlySortedBy (slice_cmp nat_cmp) ps → i < length ps → is_less (get_or ps i d) path ≡ true → AllLess path (take (suc i) ps)
-unfolding IsStrictlySortedBy
-less_up_to path [] i d sorted lt less = absurd (omega arith)
-less_up_to path (p ∷ ps) zero d sorted lt less = (less, tt)
-less_up_to path (p ∷ ps) (suc i) d sorted lt less =
-    (less_trans p (get_or ps i d) path (less_at p ps i d sorted.0 (omega arith)) less, less_up_to path ps i d sorted.1 (omega arith) less)
-
--- where a path isn't, those behind it aren't
-pub none_less_from : (path : List ℕ) (ps : Paths) (i : ℕ) (d : List ℕ) → IsStrictlySortedBy (slice_cmp nat_cmp) ps → i < length ps → is_less (get_or ps i d) path ≡ false → NoneLess path (drop i ps)
-unfolding IsStrictlySortedBy
-none_less_from path [] i d sorted lt not_less = absurd (omega arith)
-none_less_from path (p ∷ ps) zero d sorted lt not_less = (not_less, none_less path p ps not_less sorted.0)
-none_less_from path (p ∷ ps) (suc i) d sorted lt not_less = none_less_from path ps i d sorted.1 (omega arith) not_less
-
--- how far a search for the place has come
-pub record Between (path : List ℕ) (ps : Paths) (low high : ℕ) : Type 0 where
-  pub order : low ≤ high
-  pub within : high ≤ length ps
-  pub before : AllLess path (take low ps)
-  pub behind : NoneLess path (drop high ps)
-
-pub between_all : (path : List ℕ) (ps : Paths) → Between path ps 0 (length ps)
-between_all path ps = record { order = omega arith; within = omega arith; before = tt; behind = none ps }
-  where
-    none : (qs : Paths) → NoneLess path (drop (length qs) qs)
-    none [] = tt
-    none (q ∷ qs) = none qs
-
-pub raised : (path : List ℕ) (ps : Paths) (low high middle : ℕ) (d : List ℕ) → IsStrictlySortedBy (slice_cmp nat_cmp) ps → Between path ps low high → middle < high → is_less (get_or ps middle d) path ≡ true → Between path ps (middle + 1) high
-raised path ps low high middle d sorted b lt less =
-    let end = b.within in
-    let next : suc middle ≡ middle + 1 = omega arith in
-    record {
-      order = omega arith;
-      within = b.within;
-      before = subst (λ n. AllLess path (take n ps)) next (less_up_to path ps middle d sorted (omega arith) less);
-      behind = b.behind;
-    }
-
-pub lowered : (path : List ℕ) (ps : Paths) (low high middle : ℕ) (d : List ℕ) → IsStrictlySortedBy (slice_cmp nat_cmp) ps → Between path ps low high → low ≤ middle → middle < high → is_less (get_or ps middle d) path ≡ false → Between path ps low middle
-lowered path ps low high middle d sorted b le lt not_less =
-    let end = b.within in
-    record {
-      order = le;
-      within = omega arith;
-      before = b.before;
-      behind = none_less_from path ps middle d sorted (omega arith) not_less;
-    }
-
-pub found_place : (path : List ℕ) (ps : Paths) (low high : ℕ) → Between path ps low high → high ≤ low → IsPlace path ps low
-found_place path ps low high b le =
-    let order = b.order in
-    let same : high ≡ low = omega arith in
-    let end = b.within in
-    record { within = omega arith; before = b.before; behind = subst (λ n. NoneLess path (drop n ps)) same b.behind }
 
 -- ---- entries with their paths
 
@@ -149,16 +76,44 @@ listed-take zero items = refl
 listed-take (suc i) [] = refl
 listed-take (suc i) (e ∷ items) = ap (λ more. (e.0, seen e.1) ∷ more) (listed-take i items)
 
-pub listed-filter : (test : List ℕ → Bool) (items : List (List ℕ × Given)) → listed (filter (λ e. test e.0) items) ≡ filter (λ e. test e.0) (listed items)
-listed-filter test [] = refl
-listed-filter test (e ∷ items) = elim (cases_Bool (test e.0)) [
-  | inl stays ↦ rw stays (ap (λ more. (e.0, seen e.1) ∷ more) (listed-filter test items))
-  | inr goes ↦ rw goes (listed-filter test items)
-]
+-- ---- where a search ends
+
+-- each path is one of which this holds
+key_of : (P : List ℕ → Type 0) (items : List (List ℕ × Given)) (i : ℕ) (d : List ℕ × Given) → AllByRecursion P (keys_of (listed items)) → i < length items → P (get_or items i d).0
+key_of P [] i d all lt = absurd (omega arith)
+key_of P (e ∷ items) zero d all lt = all.0
+key_of P (e ∷ items) (suc i) d all lt = key_of P items i d all.1 (omega arith)
+
+-- where a path is less, so are those before it
+pub parted : (path : List ℕ) (items : List (List ℕ × Given)) → IsStrictlySortedBy (slice_cmp nat_cmp) (keys_of (listed items)) → IsPartitionedBy (λ e. is_less e.0 path) items
+unfolding IsStrictlySortedBy
+parted path [] sorted i j d le lt less = absurd (omega (arith, lt))
+parted path (e ∷ items) sorted zero zero d le lt less = less
+parted path (e ∷ items) sorted (suc i) zero d le lt less = absurd (omega (arith, le))
+parted path (e ∷ items) sorted zero (suc j) d le lt less = less_trans e.0 (get_or items j d).0 path (key_of (λ p. slice_cmp nat_cmp e.0 p ≡ Less) items j d sorted.0 (omega (arith, lt))) less
+parted path (e ∷ items) sorted (suc i) (suc j) d le lt less = parted path items sorted.1 i j d (omega (arith, le)) (omega (arith, lt)) less
+
+before_from : (path : List ℕ) (items : List (List ℕ × Given)) (i : ℕ) → i ≤ length items → ((k : ℕ) (d : List ℕ × Given) → k < i → is_less (get_or items k d).0 path ≡ true) → AllLess path (take i (keys_of (listed items)))
+before_from path items zero le all = tt
+before_from path [] (suc i) le all = absurd (omega arith)
+before_from path (e ∷ items) (suc i) le all = (all 0 e (omega arith), before_from path items i (omega arith) (λ k d lt. all (suc k) d (omega (arith, lt))))
+
+none_from : (path : List ℕ) (items : List (List ℕ × Given)) (i : ℕ) → ((k : ℕ) (d : List ℕ × Given) → i ≤ k → k < length items → is_less (get_or items k d).0 path ≡ false) → NoneLess path (drop i (keys_of (listed items)))
+none_from path [] zero all = tt
+none_from path [] (suc i) all = tt
+none_from path (e ∷ items) zero all = (all 0 e (omega arith) (omega arith), none_from path items zero (λ k d le lt. all (suc k) d (omega arith) (omega (arith, lt))))
+none_from path (e ∷ items) (suc i) all = none_from path items i (λ k d le lt. all (suc k) d (omega (arith, le)) (omega (arith, lt)))
+
+pub found_place : (path : List ℕ) (items : List (List ℕ × Given)) (i : ℕ) → i ≤ length items → IsPartitionPoint (λ e. is_less e.0 path ≡ true) (λ e. is_less e.0 path ≡ false) items i → IsPlace path (keys_of (listed items)) i
+found_place path items i le point = record {
+  within = omega (arith, length-keys (listed items), length-listed items);
+  before = before_from path items i le (λ k d lt. point.0 k d (omega arith) lt);
+  behind = none_from path items i point.1;
+}
 
 -- ---- from a start on
 
-not_less-le : (p start : List ℕ) → is_less p start ≡ false → is_le (slice_cmp nat_cmp start p) ≡ true
+pub not_less-le : (p start : List ℕ) → is_less p start ≡ false → is_le (slice_cmp nat_cmp start p) ≡ true
 not_less-le p start h = by (slice_cmp nat_cmp start p) refl
   where
     by : (o : Ordering) → slice_cmp nat_cmp start p ≡ o → is_le (slice_cmp nat_cmp start p) ≡ true
@@ -166,7 +121,7 @@ not_less-le p start h = by (slice_cmp nat_cmp start p) refl
     by Equal o = ap is_le o
     by Greater o = absurd (false≢true (sym h ∙ ap is_lt (less_back start p Greater o)))
 
-less-not_le : (p start : List ℕ) → is_less p start ≡ true → is_le (slice_cmp nat_cmp start p) ≡ false
+pub less-not_le : (p start : List ℕ) → is_less p start ≡ true → is_le (slice_cmp nat_cmp start p) ≡ false
 less-not_le p start h = ap is_le (less_back p start Less (is_Less _ h))
 
 all_from : (start : List ℕ) (es : Entries) → NoneLess start (keys_of es) → from_start start es ≡ es

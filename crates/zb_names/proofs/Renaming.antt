@@ -10,7 +10,7 @@ use Rattle.std.specs.Str.{bytes_eq}
 use Rattle.std.specs.Map.{keys_of}
 use Rattle.std.proofs.lemmas.Cmp.{tied_itself, nat_list_cmp_total}
 use Rattle.std.proofs.lemmas.List.{append-nil, append_assoc, append_cancel_left, length-append}
-use Rattle.std.proofs.lemmas.Bool.{cases_Bool, or_parts, or_left, or_right, or_from, false≢true, ltb-false}
+use Rattle.std.proofs.lemmas.Bool.{cases_Bool, or_parts, or_from, false≢true, ltb-false}
 use Rattle.std.proofs.lemmas.Slice.Eq.{bytes_eq-Decides}
 use Rattle.std.proofs.Math.Seq.{drop-append_seam, drop-length}
 use Rattle.zb_types.specs.Paths.{is_path}
@@ -18,7 +18,7 @@ use Rattle.zb_types.specs.Names.{Entry, find, has, is_dir, is_below, is_within, 
 use Rattle.zb_names.specs.Sound.{IsTree, has_number}
 use Rattle.zb_names.specs.Changing.{AreNew, within, relocated}
 use Rattle.zb_names.proofs.Fronts.{hangs_from_walk, walk_from_hanging, split_below, below_split}
-use Rattle.zb_names.proofs.Inserting.{or_else, bytes_eq_self, has-with_entries, find-with_entries}
+use Rattle.zb_names.proofs.Inserting.{or_else, has-with_entries, find-with_entries}
 use Rattle.zb_names.proofs.Finding.{has-find}
 use Rattle.zb_names.proofs.Lying.{lies_within, within_itself, within_longer, within_below, fronts_compare}
 use Rattle.zb_names.proofs.NameParts.{is_path-longer}
@@ -32,15 +32,6 @@ all_has P path (e ∷ es) all there = elim (cases_Bool (bytes_eq path e.0)) [
   | inl same ↦ subst P (sym ((bytes_eq-Decides path e.0).0 same)) all.0
   | inr apart ↦ all_has P path es all.1 (rw apart at there)
 ]
-
--- an entry of a list is there
-has_more : (e : List ℕ × Entry) (all es : List (List ℕ × Entry)) → AllByRecursion (λ d. has d.0 all ≡ true) es → AllByRecursion (λ d. has d.0 (e ∷ all) ≡ true) es
-has_more e all [] there = tt
-has_more e all (d ∷ es) there = (or_right (bytes_eq d.0 e.0) (has d.0 all) there.0, has_more e all es there.1)
-
-all_there : (es : List (List ℕ × Entry)) → AllByRecursion (λ e. has e.0 es ≡ true) es
-all_there [] = tt
-all_there (e ∷ es) = (or_left (bytes_eq e.0 e.0) (has e.0 es) (bytes_eq_self e.0), has_more e es es (all_there es))
 
 all_filter : (P : List ℕ × Entry → Type 0) (test : List ℕ × Entry → Bool) (es : List (List ℕ × Entry)) → AllByRecursion P es → AllByRecursion P (filter test es)
 all_filter P test [] all = tt
@@ -65,7 +56,7 @@ find-filter path test (e ∷ es) kept = elim (cases_Bool (test e.0)) as (λ _. f
       rw (goes, apart) (find-filter path test es kept)
 ]
 
-dir_there : (path : List ℕ) (es : List (List ℕ × Entry)) → is_dir (find path es) ≡ true → has path es ≡ true
+pub dir_there : (path : List ℕ) (es : List (List ℕ × Entry)) → is_dir (find path es) ≡ true → has path es ≡ true
 dir_there path es dir = has-find path es ∙ by (find path es) dir
   where
     by : (o : Option Entry) → is_dir o ≡ true → is_some o ≡ true
@@ -134,35 +125,6 @@ module _ (from to : List ℕ) (entries : List (List ℕ × Entry)) (can : CanMov
   new_apart = elim (cases_Bool (bytes_eq from to)) [
     | inl same ↦ absurd (false≢true (sym old_apart ∙ ap (is_within to) ((bytes_eq-Decides from to).0 same) ∙ within_itself to))
     | inr apart ↦ or_from (bytes_eq from to) (is_below from to) apart can.outside
-  ]
-
-  -- nothing lies at both
-  pub not_at_both : (path : List ℕ) → is_within to path ≡ true → is_within from path ≡ false
-  not_at_both path at_new = elim (cases_Bool (is_within from path)) [
-    | inr outside ↦ outside
-    | inl at_old ↦
-        let old = lies_within from path at_old in
-        let new = lies_within to path at_new in
-        let both : from ++ drop (length from) path ≡ to ++ drop (length to) path = sym old.split ∙ new.split in
-        absurd (elim old.rest [
-          | inl none ↦
-              let same : path ≡ from = old.split ∙ ap (λ r. from ++ r) none ∙ append-nil from in
-              false≢true (sym old_apart ∙ ap (is_within to) (sym same) ∙ at_new)
-          | inr more ↦ elim new.rest [
-            | inl nothing ↦
-                let same : path ≡ to = new.split ∙ ap (λ r. to ++ r) nothing ∙ append-nil to in
-                false≢true (sym new_apart ∙ ap (is_within from) (sym same) ∙ at_old)
-            | inr other ↦
-                let split : from ++ 47 ∷ more.0 ≡ to ++ 47 ∷ other.0 = ap (λ r. from ++ r) (sym more.1) ∙ both ∙ ap (λ r. to ++ r) other.1 in
-                elim (fronts_compare from to more.0 other.0 split) [
-                  | inl equal ↦ false≢true (sym new_apart ∙ ap (is_within from) (sym equal) ∙ within_itself from)
-                  | inr apart ↦ elim apart [
-                    | inl longer ↦ false≢true (sym new_apart ∙ ap (is_within from) longer.1 ∙ within_longer from longer.0)
-                    | inr shorter ↦ false≢true (sym old_apart ∙ ap (is_within to) shorter.1 ∙ within_longer to shorter.0)
-                  ]
-                ]
-          ]
-        ])
   ]
 
   -- a moved path lies at the new path

@@ -17,7 +17,7 @@ use Rattle.zb_names.specs.Listing.{IsFront, IsStartBehind, has_slash, name_of, n
 use Rattle.zb_names.specs.Placing.{from_start}
 use Rattle.zb_names.proofs.Behind.{from_start-kept, from_start-left, none_behind}
 use Rattle.zb_names.proofs.Below.{front_le}
-use Rattle.zb_names.proofs.Children.{names_behind-cons, names_behind-none, names_behind-from, le-from, rising-from, All-from}
+use Rattle.zb_names.proofs.Children.{names_behind-cons, names_behind-none, names_behind-from, le-from, rising-from}
 use Rattle.zb_names.proofs.NameParts.{slash_no_name}
 use Rattle.zb_names.proofs.Finding.{less_back}
 
@@ -313,8 +313,3 @@ listing_begins front start es same =
 pub begins_self : (front : List ℕ) → begins_with front front ≡ true
 begins_self [] = refl
 begins_self (x ∷ front) = and_from (eqb x x) (begins_with front front) (eq-eqb x x refl) (begins_self front)
-
--- the path that comes first is one
-pub path_first : (start path : List ℕ) (kept : Entry) (es more : List (List ℕ × Entry)) → AllByRecursion (λ e. is_path e.0 ≡ true) es → from_start start es ≡ (path, kept) ∷ more → is_path path ≡ true
-path_first start path kept es more paths split =
-    (subst (λ (z : List (List ℕ × Entry)). AllByRecursion (λ e. is_path e.0 ≡ true) z) split (All-from start (λ e. is_path e.0 ≡ true) es paths)).0

@@ -134,17 +134,6 @@ IsTree-others next gone es tree outside rising = record {
 
 -- ---- files
 
-path_has_bytes : (path : List ℕ) → is_path path ≡ true → 0 < length path
+pub path_has_bytes : (path : List ℕ) → is_path path ≡ true → 0 < length path
 path_has_bytes [] path = absurd (false≢true path)
 path_has_bytes (b ∷ rest) path = omega arith
-
--- nothing hangs from a file
-pub nothing_below_file : (path : List ℕ) (number : ℕ) (all es : List (List ℕ × Entry)) → is_path path ≡ true → find path all ≡ Some (numbered number) → AllByRecursion (λ e. walk all e.0 ≡ None) es
-    → list_any (λ e. is_below path e.0) es ≡ false
-nothing_below_file path number all [] is found hanging = refl
-nothing_below_file path number all (e ∷ es) is found hanging = elim (cases_Bool (is_below path e.0)) [
-  | inl below ↦
-      let dir : is_dir (find path all) ≡ true = hangs_from_walk all e.0 hanging.0 path (path_has_bytes path is) below in
-      absurd (false≢true (rw found at dir))
-  | inr outside ↦ rw outside (nothing_below_file path number all es is found hanging.1)
-]

@@ -1,6 +1,6 @@
 -- The entries at a path and below it.
 use Rattle.std.proofs.Common.{◌≡◌, ℕ, true, false, cond, List, [], ◌∷◌, ◌++◌, Some, refl, sym, ap, subst, ◌∙◌, inl, inr}
-use Rattle.std.specs.List.{AllByRecursion, list_any}
+use Rattle.std.specs.List.{AllByRecursion}
 use Rattle.std.specs.List.Sorted.{IsStrictlySortedBy}
 use Rattle.std.specs.declared.cmp.Ordering.TheVariants.{Less, Equal, Greater}
 use Rattle.std.specs.Ordering.{nat_cmp}
@@ -9,7 +9,7 @@ use Rattle.std.specs.Str.{bytes_eq}
 use Rattle.std.specs.Map.{keys_of}
 use Rattle.std.proofs.lemmas.Option.{same_Some}
 use Rattle.std.proofs.lemmas.Cmp.{tied_itself, nat_cmp_total, nat_list_cmp_total}
-use Rattle.std.proofs.lemmas.Bool.{cases_Bool, or_parts}
+use Rattle.std.proofs.lemmas.Bool.{cases_Bool}
 use Rattle.std.proofs.lemmas.Slice.Eq.{bytes_eq-Decides}
 use Rattle.zb_types.specs.Names.{Entry, find, is_below}
 use Rattle.zb_names.specs.Changing.{within, below}
@@ -69,9 +69,3 @@ within-found path entry (e ∷ es) sorted found = elim (cases_Bool (bytes_eq pat
       ] in
       rw (apart, outside) (within-found path entry es sorted.1 later)
 ]
-
-pub below-none : (path : List ℕ) (es : List (List ℕ × Entry)) → list_any (λ e. is_below path e.0) es ≡ false → below path es ≡ []
-below-none path [] none = refl
-below-none path (e ∷ es) none =
-    let parts = or_parts (is_below path e.0) (list_any (λ x. is_below path x.0) es) none in
-    rw parts.0 (below-none path es parts.1)

@@ -1,7 +1,13 @@
 -- Changes of names that are prepared, and then carried out without memory.
-use Rattle.std.specs.Prelude.{◌≡◌, ℕ, ◌+◌, ◌-◌, ◌≤◌, nat_lt, max, Bool, not, false, List, [], ◌∷◌, ◌++◌, length, drop, map, filter, Option, Some, None}
-use Rattle.std.specs.List.{list_any}
+use Rattle.std.specs.Prelude.{◌≡◌, ℕ, ◌+◌, ◌-◌, ◌≤◌, nat_lt, max, Bool, not, true, false, List, [], ◌∷◌, ◌++◌, length, drop, map, filter, Option, Some, None}
+use Rattle.std.specs.List.{AllByRecursion, list_any}
+use Rattle.std.specs.List.Sorted.{IsStrictlySortedBy}
+use Rattle.std.specs.Ordering.{nat_cmp}
+use Rattle.std.specs.Cmp.Lexicographic.{slice_cmp}
+use Rattle.std.specs.Map.{keys_of}
 use Rattle.zb_types.specs.Names.{Entry, Names, has, is_within, is_below, max_names, max_path, with_entries}
+use Rattle.zb_names.specs.declared.entries.Entry.{Entry as Given}
+use Rattle.zb_names.specs.Shown.{listed, seen}
 use Rattle.zb_names.specs.Sound.{IsTree}
 
 -- what is taken out with all that is below it, what is put in, and the number that the next file gets
@@ -9,6 +15,21 @@ pub record Changed : Type 0 where
   pub gone : Option (List ℕ)
   pub fresh : List (List ℕ × Entry)
   pub next : ℕ
+
+-- an entry, if there is one, and more that go with it
+abbrev pub fresh_of : Option (List ℕ × Given) → List (List ℕ × Given) → List (List ℕ × Entry)
+fresh_of None more = []
+fresh_of (Some first) more = (first.0, seen first.1) ∷ listed more
+
+-- the entries behind the first rise, and are below its path
+abbrev pub LieBelow : List (List ℕ × Entry) → Type 0
+LieBelow [] = Unit {0}
+LieBelow (first ∷ more) = IsStrictlySortedBy (slice_cmp nat_cmp) (keys_of more) × AllByRecursion (λ e. is_below first.0 e.0 ≡ true) more
+
+-- no entry is below the path of the first that is put in
+abbrev pub HasNoneBelow : List (List ℕ × Entry) → List (List ℕ × Entry) → Type 0
+HasNoneBelow [] entries = Unit {0}
+HasNoneBelow (first ∷ more) entries = list_any (λ e. is_below first.0 e.0) entries ≡ false
 
 -- the entries that aren't taken out
 abbrev pub staying : Option (List ℕ) → List (List ℕ × Entry) → List (List ℕ × Entry)

@@ -1,5 +1,5 @@
 ghost use Rattle.std.specs.Prelude.{◌≡◌, ◌++◌};
-ghost use Rattle.zb_types.specs.Names.{is_below, is_within};
+ghost use Rattle.zb_types.specs.Names.{is_below};
 ghost use Rattle.zb_names.specs.Placing.{is_less};
 
 // Whether a path is less by its bytes than the one with these two parts.
@@ -21,11 +21,4 @@ pub(crate) fn is_below(path: &[u8], other: &[u8]) -> bool
         None => false,
         Some(next) => *next == b'/' && other.starts_with(path),
     }
-}
-
-// Whether the other path is the path or below it.
-pub(crate) fn is_within(path: &[u8], other: &[u8]) -> bool
-    ensures { result ≡ is_within path.now other.now }
-{
-    path == other || is_below(path, other)
 }

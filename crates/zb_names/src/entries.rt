@@ -1,16 +1,16 @@
-ghost use Rattle.std.specs.Prelude.{◌≡◌, ◌+◌, ◌<◌, ◌≤◌, ◌++◌, [], ◌∷◌, false, true, not, length, filter, option_map, IfOk, OnOk};
-ghost use Rattle.std.specs.List.{AllByRecursion};
+ghost use Rattle.std.specs.Prelude.{◌≡◌, ◌+◌, ◌<◌, ◌≤◌, ◌++◌, List, [], ◌∷◌, false, true, not, length, take, drop, filter, option_map, IfOk, OnOk};
+ghost use Rattle.std.specs.List.{AllByRecursion, list_any};
 ghost use Rattle.std.specs.List.Sorted.{IsStrictlySortedBy};
 ghost use Rattle.std.specs.Ordering.{nat_cmp};
 ghost use Rattle.std.specs.Cmp.Lexicographic.{slice_cmp};
 ghost use Rattle.std.specs.Map.{keys_of};
 ghost use Rattle.zb_types.specs.Paths.{is_path};
-ghost use Rattle.zb_types.specs.Names.{find, has, is_within, max_names, others, with_entries, with_entry};
+ghost use Rattle.zb_types.specs.Names.{find, has, is_below, is_within, max_names, others, with_entries, with_entry};
 ghost use Rattle.zb_names.specs.Shown.{listed, seen};
 ghost use Rattle.zb_names.specs.Placing.{IsPlace, from_start};
-ghost use Rattle.zb_names.specs.Changing.{AreNew, staying};
+ghost use Rattle.zb_names.specs.Changing.{AreNew, HasNoneBelow, LieBelow, fresh_of, staying};
 
-use crate::comparing::{is_less, is_within};
+use crate::comparing::is_less;
 use std::alloc::Global;
 use std::marker::Model;
 use zb_types::{Fid, Mem, Path};
@@ -57,6 +57,14 @@ pub(crate) fn copy_of(alloc: Global, path: &Path) -> Mem<Path>
     path.copy(alloc)
 }
 
+// Moves the last entries, so many, to a place before them.
+fn move_last<T>(items: &mut [T], count: usize, place: usize)
+    requires { place + count ≤ length items.old }
+    ensures { (front back : List T) → items.old ≡ front ++ back → length back ≡ count → items.new ≡ take place front ++ (back ++ drop place front) }
+{
+    items[place..].rotate_right(count);
+}
+
 impl EntryList {
     // The entries with these paths, which rise.
     pub(crate) fn of(alloc: Global, list: &[(Path, Entry)]) -> Mem<EntryList>
@@ -85,17 +93,8 @@ impl EntryList {
         ensures bound { result ≤ length self.now.entries }
         ensures place { IsPlace (head.now ++ tail.now) (keys_of self.now.entries) result }
     {
-        let mut low = 0;
-        let mut high = self.items.len();
-        while low < high {
-            let middle = low + (high - low) / 2;
-            if is_less(self.items[middle].0.slice(), head, tail) {
-                low = middle + 1;
-            } else {
-                high = middle;
-            }
-        }
-        low
+        self.items
+            .partition_point(|(path, _)| is_less(path.slice(), head, tail))
     }
 
     // The entries from the path with these two parts on.
@@ -121,7 +120,7 @@ impl EntryList {
         Some(*entry)
     }
 
-    // Puts an entry in at a path at which there is none, without memory.
+    // Puts an entry in at a path at which there is none, without memory. What stands behind it moves by one place.
     pub(crate) fn put(&mut self, path: Path, entry: Entry)
         requires absent { has path self.old.entries ≡ false }
         requires room { length self.old.entries < self.old.room }
@@ -132,17 +131,37 @@ impl EntryList {
         let _ = self.items.insert(i, (path, entry));
     }
 
-    // Puts entries in, the last first, without memory.
-    pub(crate) fn put_all(&mut self, fresh: Vec<(Path, Entry)>)
-        requires new { AreNew (listed fresh.items) self.old.entries }
+    // Puts in entries that rise and are below a path with nothing below it, without memory. They go in as one, so what
+    // stands behind them moves once.
+    fn put_below(&mut self, path: &[u8], fresh: Vec<(Path, Entry)>)
+        requires rising { IsStrictlySortedBy (slice_cmp nat_cmp) (keys_of (listed fresh.items)) }
+        requires below { AllByRecursion (λ e. is_below path.now e.0 ≡ true) (listed fresh.items) }
+        requires none { list_any (λ e. is_below path.now e.0) self.old.entries ≡ false }
         requires room { length fresh.items + length self.old.entries ≤ self.old.room }
         ensures entries { self.new.entries ≡ with_entries (listed fresh.items) self.old.entries }
         ensures room { self.old.room ≤ self.new.room }
     {
+        let i = self.place(path, b"/");
+        let count = fresh.len();
         let mut left = fresh;
-        while let Some((path, entry)) = left.pop() {
-            self.put(path, entry);
-        }
+        let _ = self.items.append(&mut left);
+        move_last(&mut self.items, count, i);
+    }
+
+    // Puts in an entry, if there is one, and those that go with it below its path, without memory.
+    pub(crate) fn put_all(&mut self, first: Option<(Path, Entry)>, below: Vec<(Path, Entry)>)
+        requires new { AreNew (fresh_of first below.items) self.old.entries }
+        requires lie { LieBelow (fresh_of first below.items) }
+        requires none { HasNoneBelow (fresh_of first below.items) self.old.entries }
+        requires room { length (fresh_of first below.items) + length self.old.entries ≤ self.old.room }
+        ensures entries { self.new.entries ≡ with_entries (fresh_of first below.items) self.old.entries }
+        ensures room { self.old.room ≤ self.new.room }
+    {
+        let Some((path, entry)) = first else {
+            return;
+        };
+        self.put_below(path.slice(), below);
+        self.put(path, entry);
     }
 
     // Takes out what stands at a path, if something does.
@@ -160,13 +179,23 @@ impl EntryList {
         self.items.remove(i);
     }
 
+    // Takes out what stands below a path, as one: what stands behind it moves once.
+    fn remove_below(&mut self, path: &[u8])
+        ensures entries { self.new.entries ≡ filter (λ e. not (is_below path.now e.0)) self.old.entries }
+        ensures room { self.old.room ≤ self.new.room }
+    {
+        let start = self.place(path, b"/");
+        let end = self.place(path, b"0");
+        self.items.drain(start..end);
+    }
+
     // Takes out what stands at a path and below it.
     fn remove_within(&mut self, path: &[u8])
         ensures entries { self.new.entries ≡ filter (λ e. not (is_within path.now e.0)) self.old.entries }
         ensures room { self.old.room ≤ self.new.room }
     {
-        self.items
-            .retain(|(other, _)| !is_within(path, other.slice()));
+        self.remove(path);
+        self.remove_below(path);
     }
 
     // Takes out what stands at a path and below it, if there is one.

@@ -1,7 +1,6 @@
 //! The names of a file tree: what stands at each path, in memory.
 #![tactic(auto)]
 
-mod changing;
 mod comparing;
 mod entries;
 mod faults;
@@ -9,10 +8,11 @@ mod listing;
 mod loading;
 mod looking;
 mod moving;
+mod names;
+mod prepared;
 mod refusing;
-mod table;
 
-pub use changing::Prepared;
 pub use entries::Entry;
 pub use faults::NameFault;
-pub use table::Names;
+pub use names::Names;
+pub use prepared::Prepared;

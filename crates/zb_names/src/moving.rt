@@ -4,7 +4,7 @@ ghost use Rattle.zb_types.specs.Names.{find, walk, is_dir, max_path};
 ghost use Rattle.zb_types.specs.Paths.{is_path};
 ghost use Rattle.zb_names.specs.Shown.{seen, listed};
 ghost use Rattle.zb_names.specs.Answers.{gets_too_long, refusal_of_move};
-ghost use Rattle.zb_names.specs.Changing.{any_too_long, below, within, relocated};
+ghost use Rattle.zb_names.specs.Changing.{any_too_long, below, relocated};
 
 use crate::comparing::is_below;
 use crate::entries::{Entry, EntryList};
@@ -94,21 +94,17 @@ fn push_below(
     Ok(())
 }
 
-// What stands at a path, this entry, and below it, each with its new path.
-pub(crate) fn moved(
+// What stands below a path, each entry with its new path.
+pub(crate) fn moved_below(
     alloc: Global,
     kept: &EntryList,
-    entry: Entry,
     from: &[u8],
     to: &[u8],
 ) -> Mem<Vec<(Path, Entry)>>
-    requires found { find from.now kept.now.entries ≡ Some (seen entry) }
-    requires paths { AllByRecursion (λ e. is_path e.0 ≡ true) (relocated (length from.now) to.now (within from.now kept.now.entries)) }
-    ensures { IfOk result (λ fresh. listed fresh.items ≡ relocated (length from.now) to.now (within from.now kept.now.entries)) }
+    requires { AllByRecursion (λ e. is_path e.0 ≡ true) (relocated (length from.now) to.now (below from.now kept.now.entries)) }
+    ensures { IfOk result (λ fresh. listed fresh.items ≡ relocated (length from.now) to.now (below from.now kept.now.entries)) }
 {
-    let _ = kept.slice();
     let mut fresh = Vec::new(alloc);
-    fresh.push((relocated(alloc, from, from.len(), to)?, entry))?;
     push_below(alloc, &mut fresh, kept, from, to)?;
     Ok(fresh)
 }

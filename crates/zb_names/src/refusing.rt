@@ -5,7 +5,7 @@ ghost use Rattle.zb_types.specs.declared.calls.Call.TheVariants.{Create, Rename,
 use crate::entries::Entry;
 use crate::looking::refusal_of_new;
 use crate::moving::movable;
-use crate::table::{LAST_NUMBER, Names};
+use crate::names::{LAST_NUMBER, Names};
 use zb_types::{Call, Path, Refusal};
 
 impl Names {

@@ -11,8 +11,8 @@ use Rattle.zb_claims.specs.Text.{node_text, kind_text, plus_text, words, IsLine}
 use Rattle.zb_script.specs.Spaces.{is_word, Splits}
 use Rattle.zb_script.specs.Numbers.{begins_plainly}
 use Rattle.zb_script.specs.Lines.{begins_with_plus, plus_of, body_text, IsLineWith, IsHead, head_text, head_of, after_head, IsLineOf}
-use Rattle.zb_script.specs.declared.heads.Head.{Head}
-use Rattle.zb_script.specs.declared.heads.Head.TheVariants as heads
+use Rattle.zb_script.specs.declared.head.Head.{Head}
+use Rattle.zb_script.specs.declared.head.Head.TheVariants as heads
 use Rattle.zb_script.proofs.Splitting.{split_same, unsplit}
 use Rattle.zb_script.proofs.Decimals.{begins-decimal, is_word-decimal}
 use Rattle.zb_script.proofs.Names.{byte_number, tail_same, same_byte, client_byte}

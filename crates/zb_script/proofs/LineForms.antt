@@ -14,7 +14,7 @@ use Rattle.zb_script.specs.Spaces.{is_word, Splits, behind_text}
 use Rattle.zb_script.specs.Numbers.{IsUpTo}
 use Rattle.zb_script.specs.Nodes.{IsActor, IsDisk, IsKind}
 use Rattle.zb_script.specs.Lines.{after_head, IsLineOf, IsStepOf, after_actor}
-use Rattle.zb_script.specs.declared.heads.Head.TheVariants as heads
+use Rattle.zb_script.specs.declared.head.Head.TheVariants as heads
 use Rattle.zb_script.proofs.Splitting.{SameSplit, split_same, unsplit}
 use Rattle.zb_script.proofs.Decimals.{is_word-decimal, up_to_number}
 use Rattle.zb_script.proofs.Names.{same_named, is_word-node, named_actor, named_disk}

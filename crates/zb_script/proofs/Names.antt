@@ -17,7 +17,7 @@ use Rattle.zb_script.specs.Spaces.{is_word}
 use Rattle.zb_script.specs.Numbers.{IsNumber, begins_plainly}
 use Rattle.zb_script.specs.Nodes.{IsByte, numbered_text, IsNamed, IsMember, IsActor, IsDisk, IsServer}
 use Rattle.zb_script.specs.Lines.{IsHead, head_text}
-use Rattle.zb_script.specs.declared.heads.Head.TheVariants as heads
+use Rattle.zb_script.specs.declared.head.Head.TheVariants as heads
 use Rattle.zb_script.proofs.Decimals.{begins-decimal, is_word-decimal}
 use Rattle.zb_script.proofs.Ascii.{ascii_text}
 

@@ -11,8 +11,8 @@ use Rattle.zb_types.specs.declared.lines.Line.TheVariants.{Call as CallLine, Job
 use Rattle.zb_types.specs.Limits.{within}
 use Rattle.zb_claims.specs.Text.{call_text, node_text, server_text, kind_text, max_step, IsLine, words}
 use Rattle.zb_script.specs.Nodes.{IsByte}
-use Rattle.zb_script.specs.declared.heads.Head.{Head}
-use Rattle.zb_script.specs.declared.heads.Head.TheVariants as heads
+use Rattle.zb_script.specs.declared.head.Head.{Head}
+use Rattle.zb_script.specs.declared.head.Head.TheVariants as heads
 
 -- whether a plus stands first
 abbrev pub begins_with_plus : List ℕ → Bool

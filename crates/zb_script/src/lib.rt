@@ -3,8 +3,8 @@
 #![tactic(auto)]
 
 mod calls;
+mod head;
 mod header;
-mod heads;
 mod kinds;
 mod laws;
 mod limits;

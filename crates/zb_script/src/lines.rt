@@ -4,7 +4,7 @@ ghost use Rattle.zb_claims.specs.Text.{plus_text, words as words_of_line, IsLine
 ghost use Rattle.zb_script.specs.Lines.{begins_with_plus, body_text, IsLineWith, IsLineOf, IsLone, IsStepOf, after_head, after_actor};
 
 use crate::calls::read_call;
-use crate::heads::{Head, read_head};
+use crate::head::{Head, read_head};
 use crate::kinds::read_kind;
 use crate::limits::MAX_STEP;
 use crate::nodes::{has_client, read_actor, read_disk, read_member, read_server};

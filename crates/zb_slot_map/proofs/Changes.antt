@@ -22,7 +22,9 @@ use Rattle.zb_slots.specs.Slots.{slots_in}
 use Rattle.zb_slots.specs.Holding.{map_of, IsLarge}
 use Rattle.zb_slot_map.specs.Tidy.{IsSound, AreTidy, IsTidy, put}
 use Rattle.zb_slot_map.specs.Changing.{FormerOrNext, IsChanged, MapTold, MayChange}
-use Rattle.zb_slot_map.proofs.Names.{one_name, named_full, only_named}
+use Rattle.zb_holding.proofs.Keys.{same_frag-is}
+use Rattle.zb_index.proofs.Held.{named_full}
+use Rattle.zb_slot_map.proofs.Names.{only_named}
 
 -- slot i lies within the slots
 pub slot_within : (f i slots : ℕ) → i < slots → slot_place f i + (192 + f) ≤ slot_place f slots
@@ -58,7 +60,7 @@ module _ (n i : ℕ) (id : FragId) (this : Slot) (before now : ℕ → Slot) (ma
 
   held_by : (other : FragId) (b : Bool) → same_frag id other ≡ b → fragment_of (held now n other) ≡ (if b then fragment_of (named id this) else fragment_of (held before n other))
   held_by other true is =
-      ap (λ (a : FragId). fragment_of (held now n a)) (sym (one_name id other is))
+      ap (λ (a : FragId). fragment_of (held now n a)) (sym (same_frag-is id other is))
       ∙ ap fragment_of (one_holds n i id now may.within none_but ∙ ap (named id) here)
   held_by other false is =
       ap fragment_of (others_stay n i other before now same (only_named id other (before i) may.was is) (ap (named other) here ∙ only_named id other this may.is is))

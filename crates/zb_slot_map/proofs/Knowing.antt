@@ -14,21 +14,13 @@ use Rattle.zb_slots.specs.Slots.{slots_in}
 use Rattle.zb_slots.specs.Holding.{map_of, IsLarge}
 use Rattle.zb_slot_map.specs.Tidy.{AreTidy, put}
 use Rattle.zb_slot_map.specs.Changing.{IsKept, MapTold, MayChange}
-use Rattle.zb_slot_map.proofs.Names.{one_name, named_full}
+use Rattle.zb_holding.proofs.Keys.{same_frag-is}
+use Rattle.zb_index.proofs.Following.{same_full}
+use Rattle.zb_index.proofs.Held.{named_full}
 use Rattle.zb_slot_map.proofs.Changes.{slot_within, lifted}
 
-stored_in : Stored → Slot → Stored
-stored_in other bad_slot = other
-stored_in other free_slot = other
-stored_in other (full_slot s) = s
-
-pub same_stored : (a b : Stored) → full_slot a ≡ full_slot b → a ≡ b
-unfolding stored_in
-same_stored a b e = ap (stored_in a) e
-
 pub same_id : (a b : Stored) → full_slot a ≡ full_slot b → b.id ≡ a.id
-unfolding stored_in
-same_id a b e = sym (ap (λ (s : Stored). s.id) (ap (stored_in a) e))
+same_id a b e = sym (ap (λ (s : Stored). s.id) (same_full a b e))
 
 not_held : (found : Option Stored) → fragment_of found ≡ None → found ≡ None
 not_held None h = refl
@@ -36,7 +28,7 @@ not_held (Some s) h = absurd (cc h)
 
 -- a full slot other than the one of a name
 named_by : (s : Stored) (id : FragId) (b : Bool) → same_frag s.id id ≡ b → (s.id ≡ id → ⊥) → (if b then Some s else None) ≡ None
-named_by s id true is never = absurd (never (one_name s.id id is))
+named_by s id true is never = absurd (never (same_frag-is s.id id is))
 named_by s id false is never = refl
 
 unnamed : (slot : Slot) (id : FragId) → ((s : Stored) → slot ≡ full_slot s → s.id ≡ id → ⊥) → named id slot ≡ None

@@ -5,13 +5,16 @@ use Rattle.zb_cell.specs.Cell.{following}
 use Rattle.zb_types.specs.declared.ids.FragId.{FragId}
 use Rattle.zb_holding.specs.Carrying.{same_frag}
 use Rattle.zb_holding.specs.Fragments.{Fragment, share_fragment, parity_fragment}
-use Rattle.zb_slots.specs.Slots.{Slot, Stored, bad_slot, free_slot, full_slot}
+use Rattle.zb_slots.specs.Slots.{Slot, Stored, free_slot, full_slot}
 use Rattle.zb_slots.specs.Holding.{named, newer, held, is_parity, Repeats, AreTwoParities}
 use Rattle.zb_slots.specs.Laws.{SameBut, NoneBut}
 use Rattle.zb_slots.proofs.Held.{others_stay, one_holds, none_holds}
 use Rattle.zb_slot_map.specs.Tidy.{AreTidy}
-use Rattle.zb_slot_map.proofs.Names.{one_name, named_full, named_other}
-use Rattle.zb_slot_map.proofs.Knowing.{not_free, same_stored}
+use Rattle.zb_holding.proofs.Keys.{same_frag-is}
+use Rattle.zb_index.proofs.Following.{same_full}
+use Rattle.zb_index.proofs.Held.{named_full, named_is}
+use Rattle.zb_slot_map.proofs.Names.{named_other}
+use Rattle.zb_slot_map.proofs.Knowing.{not_free}
 use Rattle.zb_index.specs.Twins.{NoneIsBad, IsOlder}
 
 stable_parity : (fragment : Fragment) → ((IsTrue (is_parity fragment) → ⊥) → ⊥) → IsTrue (is_parity fragment)
@@ -62,20 +65,11 @@ newer_is (Some x) (Some y) s h = pick (y.turn == following x.turn) h
     pick true h = inr h
     pick false h = inl h
 
-named_by : (x s : Stored) (id : FragId) (b : Bool) → same_frag x.id id ≡ b → (if b then Some x else None) ≡ Some s → (full_slot x ≡ full_slot s) × (s.id ≡ id)
-named_by x s id true is h = let e : x ≡ s = cc h in (ap (λ (t : Stored). full_slot t) e, sym (ap (λ (t : Stored). t.id) e) ∙ one_name x.id id is)
-named_by x s id false is h = absurd (cc h)
-
-named_is : (slot : Slot) (s : Stored) (id : FragId) → named id slot ≡ Some s → (slot ≡ full_slot s) × (s.id ≡ id)
-named_is bad_slot s id h = absurd (cc h)
-named_is free_slot s id h = absurd (cc h)
-named_is (full_slot x) s id h = named_by x s id (same_frag x.id id) refl h
-
 pub stands_in : (slots : ℕ → Slot) (n : ℕ) (id : FragId) (s : Stored) → held slots n id ≡ Some s → StandsIn slots n id s
 stands_in slots zero id s h = absurd (cc h)
 stands_in slots (suc n) id s h = ⊎_elim
     (λ low. let t = stands_in slots n id s low in record { i = t.i; within = omega (arith, t.within); full = t.full; same = t.same })
-    (λ last. let t = named_is (slots n) s id last in record { i = n; within = omega arith; full = t.0; same = t.1 })
+    (λ last. let t = named_is (slots n) id s last in record { i = n; within = omega arith; full = t.full; same = t.name })
     (newer_is (held slots n id) (named id (slots n)) s h)
 
 -- slots that are as before or free
@@ -121,7 +115,7 @@ module _ (slots now : ℕ → Slot) (n j : ℕ) (good : NoneIsBad slots n) (olde
   place = stands_in slots n older.stored.id older.newest older.stands
 
   elsewhere : place.i ≢ j
-  elsewhere e = older.other (ap (λ (s : Stored). s.turn) (same_stored older.newest older.stored (sym place.full ∙ ap slots e ∙ older.full)))
+  elsewhere e = older.other (ap (λ (s : Stored). s.turn) (same_full older.newest older.stored (sym place.full ∙ ap slots e ∙ older.full)))
 
   the_pair : IsPair slots n j place.i older.stored older.newest
   the_pair = pair slots n j place.i older.stored older.newest good older.within place.within (λ e. elsewhere (sym e)) older.full place.full place.same
@@ -140,7 +134,7 @@ module _ (slots now : ℕ → Slot) (n j : ℕ) (good : NoneIsBad slots n) (olde
       ∙ sym older.stands
 
   held_by : (id : FragId) (b : Bool) → same_frag older.stored.id id ≡ b → held now n id ≡ held slots n id
-  held_by id true is = subst (λ (q : FragId). held now n q ≡ held slots n q) (one_name older.stored.id id is) held_name
+  held_by id true is = subst (λ (q : FragId). held now n q ≡ held slots n q) (same_frag-is older.stored.id id is) held_name
   held_by id false is = others_stay n j id slots now others (ap (named id) older.full ∙ named_other older.stored older.stored.id id refl is) (ap (named id) gone)
 
   pub held_same : (id : FragId) → held now n id ≡ held slots n id

@@ -12,9 +12,12 @@ use Rattle.zb_slots.specs.Laws.{SameBut}
 use Rattle.zb_slots.proofs.Held.{others_stay, newer_counts}
 use Rattle.zb_slot_map.specs.Tidy.{AreTidy, put}
 use Rattle.zb_slot_map.specs.Changing.{MayChange}
-use Rattle.zb_slot_map.proofs.Names.{one_name, named_full, named_other}
+use Rattle.zb_holding.proofs.Keys.{same_frag-is}
+use Rattle.zb_index.proofs.Following.{same_full}
+use Rattle.zb_index.proofs.Held.{named_full}
+use Rattle.zb_slot_map.proofs.Names.{named_other}
 use Rattle.zb_slot_map.proofs.Changes.{none_but, tidy_next, held_next}
-use Rattle.zb_slot_map.proofs.Knowing.{same_stored, same_id, no_other, may_free, not_free}
+use Rattle.zb_slot_map.proofs.Knowing.{same_id, no_other, may_free, not_free}
 
 -- slot i holds a parity, slot j is free, and another parity of the same name follows the first
 pub record MayReplace (n i j : ℕ) (s t : Stored) (before : ℕ → Slot) : Type 0 where
@@ -57,7 +60,7 @@ module _ (n i j : ℕ) (s t : Stored) (before : ℕ → Slot) (may : MayReplace 
     })
 
     both_by : (q : FragId) (b : Bool) → same_frag s.id q ≡ b → fragment_of (held both n q) ≡ (if b then Some t.fragment else fragment_of (held before n q))
-    both_by q true is = ap (λ (a : FragId). fragment_of (held both n a)) (sym (one_name s.id q is)) ∙ ap fragment_of both_held
+    both_by q true is = ap (λ (a : FragId). fragment_of (held both n a)) (sym (same_frag-is s.id q is)) ∙ ap fragment_of both_held
     both_by q false is = ap fragment_of (others_stay n j q before both same (ap (named q) may.is_free) (ap (named q) here ∙ named_other t s.id q may.one is))
 
     pub both_map : (q : FragId) → fragment_of (held both n q) ≡ put s.id (Some t.fragment) (λ x. fragment_of (held before n x)) q
@@ -85,26 +88,26 @@ module _ (n i j : ℕ) (s t : Stored) (before : ℕ → Slot) (may : MayReplace 
 
     at_new : (r : Repeats both n j) → ⊥
     at_new r =
-        let b : t ≡ r.stored = same_stored t r.stored (sym here ∙ r.here) in
+        let b : t ≡ r.stored = same_full t r.stored (sym here ∙ r.here) in
         let e : r.former.id ≡ s.id = sym r.same ∙ sym (ap (λ (u : Stored). u.id) b) ∙ may.one in
         elim (cases_eq r.i i) [
-          | inl is ↦ r.not_two (subst (λ (k : ℕ). AreTwoParities both n k j r.former r.stored) (sym is) (two_up r.former r.stored (same_stored s r.former (sym there ∙ ap both (sym is) ∙ r.there)) b))
+          | inl is ↦ r.not_two (subst (λ (k : ℕ). AreTwoParities both n k j r.former r.stored) (sym is) (two_up r.former r.stored (same_full s r.former (sym there ∙ ap both (sym is) ∙ r.there)) b))
           | inr not ↦ stranger r.i r.former (omega (arith, r.below, may.also)) not (omega (arith, r.below)) r.there e
         ]
 
     at_former : (r : Repeats both n i) → ⊥
     at_former r =
-        let b : s ≡ r.stored = same_stored s r.stored (sym there ∙ r.here) in
+        let b : s ≡ r.stored = same_full s r.stored (sym there ∙ r.here) in
         let e : r.former.id ≡ s.id = sym r.same ∙ sym (ap (λ (u : Stored). u.id) b) in
         elim (cases_eq r.i j) [
-          | inl is ↦ r.not_two (subst (λ (k : ℕ). AreTwoParities both n k i r.former r.stored) (sym is) (two_down r.former r.stored (same_stored t r.former (sym here ∙ ap both (sym is) ∙ r.there)) b))
+          | inl is ↦ r.not_two (subst (λ (k : ℕ). AreTwoParities both n k i r.former r.stored) (sym is) (two_down r.former r.stored (same_full t r.former (sym here ∙ ap both (sym is) ∙ r.there)) b))
           | inr not ↦ stranger r.i r.former (omega (arith, r.below, may.within)) (omega (arith, r.below)) not r.there e
         ]
 
     elsewhere : (k : ℕ) → k < n → k ≢ i → k ≢ j → (r : Repeats both n k) → ⊥
     elsewhere k lt ni nj r = elim (cases_eq r.i j) [
       | inl is ↦
-          let a : t ≡ r.former = same_stored t r.former (sym here ∙ ap both (sym is) ∙ r.there) in
+          let a : t ≡ r.former = same_full t r.former (sym here ∙ ap both (sym is) ∙ r.there) in
           stranger k r.stored lt ni nj r.here (r.same ∙ sym (ap (λ (u : Stored). u.id) a) ∙ may.one)
       | inr not ↦
           let low : r.i < n = omega (arith, r.below, lt) in

@@ -10,7 +10,7 @@ use Rattle.zb_sound.specs.Standing.{StandFor}
 
 pub first_stands : (z : Sizes) (contents : Contents) → StandFor z contents (record { tables = first_tables; entries = [] }) (record { maps = λ s id. None; blank = λ s. false }) first_tables first_tree
 first_stands z contents = record {
-  says = record { taken = refl; shows = refl; points = tt; ends = tt; hold_some = λ log stripe h e. absurd (none-some h e); spelled = first_are z };
+  says = record { taken = refl; shows = refl; points = tt; ends = tt; spelled = first_are z };
   agree = record { one_unfit = λ s t a b u v. absurd (false≢true u); agree = λ x may log stripe h e. absurd (none-some h e) };
   none_empty = λ server id. tt;
 }

@@ -1,5 +1,5 @@
 -- What entries other than commits, and changes of one server, leave.
-use Rattle.std.proofs.Common.{◌≡◌, ◌⊎◌, ℕ, ◌<◌, Bool, true, eqb, List, [], Option, Some, refl, sym, ap, ◌∙◌, subst, inl, inr}
+use Rattle.std.proofs.Common.{◌≡◌, ◌⊎◌, ℕ, Bool, true, eqb, List, [], Option, Some, refl, sym, ap, ◌∙◌, subst, inl, inr}
 use Rattle.std.specs.Prelude.{◌&&◌, ◌||◌}
 use Rattle.std.proofs.lemmas.Bool.{cases_eq, cases_Bool, eqb-true, eqb-false, eq-eqb, or_cases}
 use Rattle.std.proofs.lemmas.Option.{none-some}
@@ -16,25 +16,26 @@ use Rattle.zb_entries.specs.declared.entry.Entry.TheVariants.{Attach, Mark, Reti
 use Rattle.zb_tables.specs.Tables.{Tables, Contents}
 use Rattle.zb_tables.specs.Fold.{attached, after_retire, with_members}
 use Rattle.zb_tables.specs.Replay.{Platter, with_entry}
-use Rattle.zb_tables.specs.Checkpoint.{AreTables}
 use Rattle.zb_tables.specs.Taking.{Sizes, IsServer, CanTake, no_batch}
 use Rattle.zb_recovery.specs.Missing.{Servers, MayMiss, OneUnfit, is_unfit, names_server}
 use Rattle.zb_recovery.specs.Agreeing.{StripeAgrees, ViewAgrees}
 use Rattle.zb_tables.proofs.Holding.{held_at-retired_other}
-use Rattle.zb_sound.specs.Standing.{StandFor, HoldSome, seen}
+use Rattle.zb_sound.specs.Standing.{StandFor, seen}
 use Rattle.zb_sound.specs.Changing.{OthersFit, OthersSame}
 use Rattle.zb_tables.proofs.Retiring.{Less, both_points, gone}
 use Rattle.zb_tables.proofs.Taken.{taken_then}
 use Rattle.zb_sound.proofs.Delivering.{stripe_same}
+use Rattle.zb_sound.proofs.Saying.{said_tables}
 
-same_server : (a b : ServerId) → a.0 ≡ b.0 → a ≡ b
+pub same_server : (a b : ServerId) → a.0 ≡ b.0 → a ≡ b
 same_server a b e = ap (λ (n : ℕ). record { 0 = n }) e
 
 -- where all others are fit, a server may be missing
 pub others_may : (z : Sizes) (st : Servers) (members : Members) (a : ServerId) → IsServer z.servers a → OthersFit z members st a → MayMiss z.servers members st.blank (Some a)
 others_may z st members a is others = record { covers = λ t server unfit. ap Some (sym (others t server unfit)); among = is }
 
-names_only : (state : State) (a : ServerId) → (state ≡ Out a) ⊎ (state ≡ Mending a) → (t : ServerId) → names_server state t ≡ eqb a.0 t.0
+-- of the state that names a server, the test of names
+pub names_only : (state : State) (a : ServerId) → (state ≡ Out a) ⊎ (state ≡ Mending a) → (t : ServerId) → names_server state t ≡ eqb a.0 t.0
 names_only state a (inl e) t = ap (λ (y : State). names_server y t) e
 names_only state a (inr e) t = ap (λ (y : State). names_server y t) e
 
@@ -59,7 +60,6 @@ module _ (z : Sizes) (contents : Contents) (p : Platter) (st : Servers) (T : Tab
           shows = says.shows;
           points = says.points;
           ends = says.ends;
-          hold_some = says.hold_some;
           spelled = says.spelled;
         };
         agree = record { one_unfit = s.agree.one_unfit; agree = s.agree.agree };
@@ -78,7 +78,6 @@ module _ (z : Sizes) (contents : Contents) (p : Platter) (st : Servers) (T : Tab
           shows = says.shows;
           points = says.points;
           ends = says.ends;
-          hold_some = says.hold_some;
           spelled = says.spelled;
         };
         agree = record { one_unfit = one; agree = stand };
@@ -106,12 +105,6 @@ module _ (z : Sizes) (contents : Contents) (p : Platter) (st : Servers) (T : Tab
       | inl same ↦ absurd (none-some h (sym (gone T.held log stripe l t same) ∙ e))
     ]
 
-    less_some : HoldSome T.held → HoldSome (Less T.held log stripe)
-    less_some all l t h e = elim (cases_Bool (eqb l.0 log.0 && eqb t stripe)) as (λ _. 0 < h.end) [
-      | inr f ↦ all l t h (sym (held_at-retired_other log stripe l t T.held f) ∙ e)
-      | inl same ↦ absurd (none-some h (sym (gone T.held log stripe l t same) ∙ e))
-    ]
-
     -- a stripe that no pointer and no entry since the checkpoint names is let go
     pub retire_keeps : CanTake z p T (Retire log stripe) → StandFor z contents (with_entry p (Retire log stripe)) st (after_retire T log stripe) tree
     retire_keeps can =
@@ -122,7 +115,6 @@ module _ (z : Sizes) (contents : Contents) (p : Platter) (st : Servers) (T : Tab
             shows = says.shows;
             points = both_points T.held log stripe T.files can.0 says.points;
             ends = says.ends;
-            hold_some = less_some says.hold_some;
             spelled = says.spelled;
           };
           agree = record { one_unfit = s.agree.one_unfit; agree = λ x may. less_stand x (s.agree.agree x may) };
@@ -130,11 +122,11 @@ module _ (z : Sizes) (contents : Contents) (p : Platter) (st : Servers) (T : Tab
         }
 
   -- a checkpoint of the tables
-  pub checkpoint_keeps : AreTables z T → StandFor z contents (record { tables = T; entries = [] }) st T tree
-  checkpoint_keeps are =
+  pub checkpoint_keeps : StandFor z contents (record { tables = T; entries = [] }) st T tree
+  checkpoint_keeps =
       let says = s.says in
       record {
-        says = record { taken = refl; shows = says.shows; points = says.points; ends = says.ends; hold_some = says.hold_some; spelled = are };
+        says = record { taken = refl; shows = says.shows; points = says.points; ends = says.ends; spelled = said_tables z contents p T tree says };
         agree = s.agree;
         none_empty = s.none_empty;
       }

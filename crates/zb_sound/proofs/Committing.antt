@@ -23,7 +23,6 @@ use Rattle.zb_tables.proofs.Growing.{same_tree}
 use Rattle.zb_tables.proofs.Holding.{with_all_on}
 use Rattle.zb_tables.proofs.Pointers.{points_on, ops_points}
 use Rattle.zb_sound.specs.Standing.{StandFor}
-use Rattle.zb_sound.proofs.Raising.{with_all_some}
 use Rattle.zb_sound.specs.Committing.{IsFlushed, IsOfUpdates}
 use Rattle.zb_tables.proofs.Taken.{same_taken, taken_then, taken_entries}
 
@@ -58,7 +57,6 @@ module _ (z : Sizes) (contents new : Contents) (p : Platter) (st : Servers) (log
             shows = shows;
             points = ops_points held z.block batch.ops (shelf_of t) after (points_on t.held held on t.files says.points) f.lie done;
             ends = ends;
-            hold_some = with_all_some z log t.next_entry pieces t.held f.may.within says.hold_some;
             spelled = says.spelled;
           };
           agree = record { one_unfit = s.agree.one_unfit; agree = f.stand };

@@ -31,11 +31,12 @@ use Rattle.zb_tables.specs.Replay.{Platter}
 use Rattle.zb_tables.specs.Taking.{Sizes}
 use Rattle.zb_recovery.specs.Missing.{Servers}
 use Rattle.zb_recovery.specs.Agreeing.{StripeAgrees, ViewAgrees}
-use Rattle.zb_sound.specs.Standing.{StandFor, HoldSome, seen}
+use Rattle.zb_sound.specs.Standing.{StandFor, seen}
 use Rattle.zb_sound.specs.Delivering.{after_asked, allowed, any_one, FlushBegins, FlushWorks, Missing, Misses, PartFits, PartsStand, WorksIn}
 use Rattle.zb_sound.specs.Staying.{LeavesParts}
 use Rattle.zb_sound.proofs.Listed.{Among, among_at, at_part, find_part}
 use Rattle.zb_sound.proofs.Missing.{some_may}
+use Rattle.zb_sound.proofs.Saying.{HoldSome, said_some}
 
 -- a stripe is held where each index that is looked at stands as before
 pub stripe_same : (n f : ℕ) (maps new : Maps) (x : Option ServerId) (contents : Contents) (log : LogId) (stripe end : ℕ)
@@ -48,7 +49,7 @@ stripe_same n f maps new x contents log stripe end same s = record {
   first = s.first;
 }
 
-silent_both : (q : FragId) (xs ys : List (ServerId × Request)) → Silent q xs → Silent q ys → Silent q (xs ++ ys)
+pub silent_both : (q : FragId) (xs ys : List (ServerId × Request)) → Silent q xs → Silent q ys → Silent q (xs ++ ys)
 silent_both q [] ys a b = b
 silent_both q (x ∷ xs) ys a b = (a.0, silent_both q xs ys a.1 b)
 
@@ -58,12 +59,13 @@ silent_behind q [] [] r s e = absurd (none-some r e)
 silent_behind q [] (a ∷ rest) r s e = subst (λ (y : ServerId × Request). is_about y.1 q ≡ false) (same_Some a r e) s.0
 silent_behind q (d ∷ done) left r s e = silent_behind q done left r s.1 e
 
-get_behind : (done left : List (ServerId × Request)) → slice_get (done ++ left) (length done) ≡ slice_get left 0
+-- the first of those that are left stands behind those that are done
+pub get_behind : (done left : List (ServerId × Request)) → slice_get (done ++ left) (length done) ≡ slice_get left 0
 get_behind [] left = refl
 get_behind (d ∷ done) left = get_behind done left
 
 -- what a request that isn't about a name leaves there
-silent_leaves : (n : ℕ) (maps : Maps) (r : ServerId × Request) (l : LogId) (t k : ℕ) → is_about r.1 (frag_id l t k) ≡ false
+pub silent_leaves : (n : ℕ) (maps : Maps) (r : ServerId × Request) (l : LogId) (t k : ℕ) → is_about r.1 (frag_id l t k) ≡ false
     → standing n (carried maps r) l t k ≡ standing n maps l t k
 silent_leaves n maps r l t k e =
     ap (λ (y : Bool). if y then stands_after r.1 (standing n maps l t k) else standing n maps l t k)
@@ -135,11 +137,12 @@ module _ (z : Sizes) (contents : Contents) (out : Option ServerId) (class : Clas
             first = sym (fit.same h e);
           }
 
-      pub next_agrees : HoldSome held → ViewAgrees (seen z st x) contents held → ViewAgrees (seen z New x) contents held
-      next_agrees hold_some all l t h e = elim (cases_eq l.0 flush.log.0) as (λ _. StripeAgrees (seen z New x) contents l t h.end) [
-        | inr ne ↦ stripe_same z.servers z.fragment st.maps New.maps x contents l t h.end (λ k a. other_same l t k (inl ne)) (all l t h e)
+      -- one held stripe
+      pub next_one : HoldSome held → (l : LogId) (t : ℕ) (h : HeldUse) → held_at l t held ≡ Some h → StripeAgrees (seen z st x) contents l t h.end → StripeAgrees (seen z New x) contents l t h.end
+      next_one hold_some l t h e old = elim (cases_eq l.0 flush.log.0) as (λ _. StripeAgrees (seen z New x) contents l t h.end) [
+        | inr ne ↦ stripe_same z.servers z.fragment st.maps New.maps x contents l t h.end (λ k a. other_same l t k (inl ne)) old
         | inl same ↦ elim (find_part flush.parts t) as (λ _. StripeAgrees (seen z New x) contents l t h.end) [
-          | inr away ↦ stripe_same z.servers z.fragment st.maps New.maps x contents l t h.end (λ k a. other_same l t k (inr away)) (all l t h e)
+          | inr away ↦ stripe_same z.servers z.fragment st.maps New.maps x contents l t h.end (λ k a. other_same l t k (inr away)) old
           | inl found ↦
               let el : l ≡ flush.log = ap (λ (n : ℕ). record { 0 = n }) same in
               let some = hold_some l t h e in
@@ -148,6 +151,9 @@ module _ (z : Sizes) (contents : Contents) (out : Option ServerId) (class : Clas
               (subst (λ (y : ℕ). StripeAgrees (seen z New x) contents flush.log y h.end) found.stripe_is (own_agrees found.part found.among h here some))
         ]
       ]
+
+      pub next_agrees : HoldSome held → ViewAgrees (seen z st x) contents held → ViewAgrees (seen z New x) contents held
+      next_agrees hold_some all l t h e = next_one hold_some l t h e (all l t h e)
 
     -- what another log has stands as before
     pub others_stand : (log : LogId) (parts : List Part) → log.0 ≢ flush.log.0 → LeavesParts z st New who who log parts
@@ -168,7 +174,7 @@ module _ (z : Sizes) (contents : Contents) (out : Option ServerId) (class : Clas
     pub next_stands : StandFor z contents p (after_asked st r) tables tree
     next_stands = record {
       says = s.says;
-      agree = record { one_unfit = s.agree.one_unfit; agree = λ x may. next_agrees st tables.held (allowed tables.members) left r is w x may s.says.hold_some (s.agree.agree x may) };
+      agree = record { one_unfit = s.agree.one_unfit; agree = λ x may. next_agrees st tables.held (allowed tables.members) left r is w x may (said_some z contents p tables tree s.says) (s.agree.agree x may) };
       none_empty = kept_by st.maps r next_stores s.none_empty;
     }
 

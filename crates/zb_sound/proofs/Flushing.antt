@@ -19,11 +19,10 @@ use Rattle.zb_tables.specs.Taking.{Sizes, stripe_room}
 use Rattle.zb_tables.proofs.Holding.{end-put}
 use Rattle.zb_recovery.specs.Agreeing.{ViewAgrees}
 use Rattle.zb_sound.specs.Delivering.{PartFits, CoversHeld, PartStands, IsNext, with_parts}
-use Rattle.zb_sound.specs.Raising.{PieceStands, PiecesStand}
 use Rattle.zb_sound.specs.Committing.{IsInFlush, AreInFlush}
 use Rattle.zb_sound.proofs.Listed.{Among, at_part, find_part}
 use Rattle.zb_sound.proofs.Rebasing.{agree_same}
-use Rattle.zb_sound.proofs.Raising.{pieces_stand}
+use Rattle.zb_sound.proofs.Raising.{PieceStands, PiecesStand, pieces_stand}
 
 -- a part behind a former one may begin where that stands
 pub next_begins : (v : View) (log : LogId) (former part : Part) → PartStands v log former → IsNext former part → MayBegin v log part

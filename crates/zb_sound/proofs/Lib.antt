@@ -1,4 +1,5 @@
 pub mod Missing
+pub mod Saying
 pub mod Listed
 pub mod Delivering
 pub mod Staying
@@ -11,3 +12,13 @@ pub mod Changing
 pub mod Beginning
 pub mod Recovering
 pub mod Owned
+pub mod Fronts
+pub mod Placed
+pub mod Currents
+pub mod Fitness
+pub mod Looked
+pub mod Righted
+pub mod Sites
+pub mod Strays
+pub mod Covering
+pub mod Sealings

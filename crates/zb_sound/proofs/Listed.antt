@@ -11,8 +11,13 @@ pub record Among (parts : List Part) (part : Part) : Type 0 where
   pub after : List Part
   pub is : parts ≡ before ++ part ∷ after
 
-among_more : (q part : Part) (qs : List Part) → Among qs part → Among (q ∷ qs) part
+-- a part among others is so with one more before them
+pub among_more : (q part : Part) (qs : List Part) → Among qs part → Among (q ∷ qs) part
 among_more q part qs a = record { before = q ∷ a.before; after = a.after; is = ap (λ ps. q ∷ ps) a.is }
+
+-- the first part
+pub among_here : (q : Part) (qs : List Part) → Among (q ∷ qs) q
+among_here q qs = record { before = []; after = qs; is = refl }
 
 -- the part at a place
 pub among_at : (parts : List Part) (i : ℕ) (d : Part) → i < length parts → Among parts (get_or parts i d)

@@ -13,10 +13,10 @@ use Rattle.zb_tables.specs.Fold.{Shelf, after_retire, all_marked, attached, comm
 use Rattle.zb_tables.proofs.Logs.{attach_other, commit_log, commit_other, live_kept, mark_live}
 use Rattle.zb_sound.specs.Owning.{LogIs}
 
-out_whole : (a : ServerId) → Out a ≡ Whole → ⊥
+pub out_whole : (a : ServerId) → Out a ≡ Whole → ⊥
 out_whole a e = absurd cc
 
-mending_whole : (a : ServerId) → Mending a ≡ Whole → ⊥
+pub mending_whole : (a : ServerId) → Mending a ≡ Whole → ⊥
 mending_whole a e = absurd cc
 
 module _ (t : Tables) (log : LogId) (owner batch : ℕ) (last : Option ℕ) where

@@ -1,20 +1,27 @@
 -- What stands after a flush stands up to the ends that its pieces raise.
-use Rattle.std.proofs.Common.{◌≡◌, ℕ, ◌+◌, ◌-◌, ◌≤◌, ◌<◌, max, eqb, List, [], ◌∷◌, length, Some, refl, sym, ap, ◌∙◌, subst, inl, inr, arith}
-use Rattle.std.specs.List.{AllByRecursion}
+use Rattle.std.proofs.Common.{◌≡◌, ℕ, ◌+◌, ◌-◌, ◌≤◌, max, eqb, List, [], ◌∷◌, length, Some, refl, sym, ap, ◌∙◌, subst, inl, inr, arith}
 use Rattle.std.proofs.lemmas.Bool.{cases_Bool, and_parts, eqb-true}
+use Rattle.std.specs.List.{AllByRecursion}
 use Rattle.std.proofs.lemmas.Option.{same_Some}
 use Rattle.zb_types.specs.declared.ids.LogId.{LogId}
 use Rattle.zb_types.specs.declared.ids.Piece.{Piece}
 use Rattle.zb_types.specs.declared.tables.HeldUse.{HeldUse}
-use Rattle.zb_holding.specs.Holding.{View, standing, away_at}
+use Rattle.zb_holding.specs.Holding.{View, StripeHolds, standing, away_at}
 use Rattle.zb_stripe_laws.proofs.Keeping.{holds_less}
 use Rattle.zb_tables.specs.Tables.{is_of, held_at, end_at, Contents}
 use Rattle.zb_tables.specs.Fold.{held_with, held_with_all, born_of}
-use Rattle.zb_tables.specs.Taking.{Sizes, IsPiece}
 use Rattle.zb_recovery.specs.Agreeing.{StripeAgrees, ViewAgrees}
 use Rattle.zb_tables.proofs.Holding.{held_at-put_same, held_at-put_other, end-put}
-use Rattle.zb_sound.specs.Standing.{HoldSome}
-use Rattle.zb_sound.specs.Raising.{PieceStands, PiecesStand}
+
+-- the stripe of a piece stands, to the end of its bytes, with what was committed before and with the piece
+pub record PieceStands (v : View) (new : Contents) (held : List HeldUse) (log : LogId) (p : Piece) : Type 0 where
+  pub within : p.offset + p.len ≤ length (new log p.stripe)
+  pub before : end_at held log p.stripe ≤ length (new log p.stripe)
+  pub holds : StripeHolds v log p.stripe (length (new log p.stripe)) (new log p.stripe)
+
+-- the stripes of all pieces do
+abbrev pub PiecesStand : View → Contents → List HeldUse → LogId → List Piece → Type 0
+PiecesStand v new held log pieces = AllByRecursion (PieceStands v new held log) pieces
 
 module _ (v : View) (new : Contents) (log : LogId) (born : ℕ) where
   abbrev Agrees : LogId → ℕ → ℕ → Type 0
@@ -66,22 +73,3 @@ module _ (v : View) (new : Contents) (log : LogId) (born : ℕ) where
   pub pieces_stand : (ps : List Piece) (held : List HeldUse) → AllAgree held → PiecesStand v new held log ps → AllAgree (held_with_all log born ps held)
   pieces_stand [] held all s = all
   pieces_stand (p ∷ ps) held all s = pieces_stand ps (held_with log born p held) (raised_stand held p all s.0) (later_all held p ps s.0 s.1)
-
--- pieces that end behind their stripes' first bytes leave that some bytes of each held stripe are committed
-pub with_some : (log : LogId) (born : ℕ) (p : Piece) (held : List HeldUse) → 1 ≤ p.offset + p.len → HoldSome held → HoldSome (held_with log born p held)
-with_some log born p held some all l t h e =
-    let new : HeldUse = record { log = log; stripe = p.stripe; end = max (end_at held log p.stripe) (p.offset + p.len); born = born_of born (held_at log p.stripe held) } in
-    elim (cases_Bool (is_of l t new)) as (λ _. 0 < h.end) [
-      | inr other ↦ all l t h (sym (held_at-put_other new l t held other) ∙ e)
-      | inl same ↦
-          let parts = and_parts (eqb log.0 l.0) (eqb p.stripe t) same in
-          let el : log ≡ l = ap (λ (n : ℕ). record { 0 = n }) (eqb-true log.0 l.0 parts.0) in
-          let et : p.stripe ≡ t = eqb-true p.stripe t parts.1 in
-          let e' = subst (λ (m : LogId). held_at m p.stripe (held_with log born p held) ≡ Some h) (sym el) (subst (λ (y : ℕ). held_at l y (held_with log born p held) ≡ Some h) (sym et) e) in
-          let is : new ≡ h = same_Some new h (sym (held_at-put_same new held) ∙ e') in
-          subst (λ (k : HeldUse). 0 < k.end) is (omega arith)
-    ]
-
-pub with_all_some : (z : Sizes) (log : LogId) (born : ℕ) (ps : List Piece) (held : List HeldUse) → AllByRecursion (IsPiece z) ps → HoldSome held → HoldSome (held_with_all log born ps held)
-with_all_some z log born [] held are all = all
-with_all_some z log born (p ∷ ps) held are all = with_all_some z log born ps (held_with log born p held) are.1 (with_some log born p held are.0.some all)

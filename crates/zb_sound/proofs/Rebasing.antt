@@ -29,7 +29,6 @@ module _ (z : Sizes) (contents new : Contents) (p : Platter) (st : Servers) wher
           shows = sym (same_tree t.held contents new same z.block t says.points) ∙ says.shows;
           points = says.points;
           ends = says.ends;
-          hold_some = says.hold_some;
           spelled = says.spelled;
         };
         agree = record { one_unfit = s.agree.one_unfit; agree = λ x may. agree_same (seen z st x) contents new t.held same (s.agree.agree x may) };

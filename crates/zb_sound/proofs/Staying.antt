@@ -87,6 +87,10 @@ module _ (z : Sizes) (log : LogId) (parts : List Part) where
     same = λ x may i d l k a. beside z.servers st.maps asked log (get_or parts i d).stripe k (is i d l);
   }
 
+  -- those that the members allow may be missing, in place of any one
+  pub fewer_leaves : (st : Servers) (members : Members) → LeavesParts z st st any_one (allowed members) log parts
+  fewer_leaves st members = record { fewer = λ x may. may.among; same = λ x may i d l k a. refl }
+
   -- a server is marked where all others are fit
   pub mark_leaves : (st : Servers) (before members : Members) (a : ServerId) → IsServer z.servers a → (members.state ≡ Out a) ⊎ (members.state ≡ Mending a)
       → OthersFit z before st a → LeavesParts z st st (allowed before) (allowed members) log parts

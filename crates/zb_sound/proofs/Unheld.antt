@@ -16,6 +16,7 @@ use Rattle.zb_recovery.specs.Missing.{Servers}
 use Rattle.zb_sound.specs.Standing.{StandFor, seen}
 use Rattle.zb_sound.specs.Delivering.{ForEach, allowed}
 use Rattle.zb_sound.proofs.Missing.{some_may}
+use Rattle.zb_sound.proofs.Saying.{said_some}
 
 first_share : (f end : ℕ) → 0 < f → 0 < end → 0 < share_length f end 0
 first_share f end pos some = omega arith
@@ -46,4 +47,4 @@ unwritten_not_held z contents p st tables tree log stripe s two pos none None e 
 unwritten_not_held z contents p st tables tree log stripe s two pos none (Some h) e =
     let one = some_may z.servers tables.members st s.agree.one_unfit in
     let held = s.agree.agree one.0 one.1 log stripe h e in
-    absurd (unwritten_holds_none (seen z st one.0) log stripe h.end held.bytes two pos (s.says.hold_some log stripe h e) (none one.0 one.1) held.held)
+    absurd (unwritten_holds_none (seen z st one.0) log stripe h.end held.bytes two pos (said_some z contents p tables tree s.says log stripe h e) (none one.0 one.1) held.held)

@@ -36,16 +36,20 @@ Misses n st any_one x = IfSome x (IsServer n)
 abbrev pub ForEach : ℕ → Servers → Missing → (Option ServerId → Type 0) → Type 0
 ForEach n st who P = (x : Option ServerId) → Misses n st who x → P x
 
+-- what is committed of a part's stripe is the beginning of the part's bytes
+abbrev pub BeginsAsHeld : Contents → List HeldUse → LogId → Part → Type 0
+BeginsAsHeld contents held log part = (h : HeldUse) → held_at log part.stripe held ≡ Some h → take h.end part.bytes ≡ take h.end (contents log part.stripe)
+
 -- A part fits into its stripe. What is committed of the stripe lies before the part, and is the beginning of its bytes.
 pub record PartFits (z : Sizes) (contents : Contents) (held : List HeldUse) (log : LogId) (part : Part) : Type 0 where
   pub writable : IsWritable (stripe_room z) part
   pub before : (h : HeldUse) → held_at log part.stripe held ≡ Some h → h.end ≤ part.begin
-  pub same : (h : HeldUse) → held_at log part.stripe held ≡ Some h → take h.end part.bytes ≡ take h.end (contents log part.stripe)
+  pub same : BeginsAsHeld contents held log part
 
 -- what is committed of a part's stripe lies within the part's bytes, and is their beginning
 pub record CoversHeld (contents : Contents) (held : List HeldUse) (log : LogId) (part : Part) : Type 0 where
   pub within : (h : HeldUse) → held_at log part.stripe held ≡ Some h → h.end ≤ length part.bytes
-  pub same : (h : HeldUse) → held_at log part.stripe held ≡ Some h → take h.end part.bytes ≡ take h.end (contents log part.stripe)
+  pub same : BeginsAsHeld contents held log part
 
 -- in this view each part may begin, and a server that is left away isn't looked at
 pub record MayBeginIn (v : View) (out : Option ServerId) (flush : Flush) : Type 0 where

@@ -1,7 +1,12 @@
 pub mod Standing
 pub mod Delivering
 pub mod Staying
-pub mod Raising
 pub mod Committing
 pub mod Changing
 pub mod Owning
+pub mod LastFlush
+pub mod LogsCurrent
+pub mod NodesFit
+pub mod LookupsCurrent
+pub mod OldStripes
+pub mod Rebuilding

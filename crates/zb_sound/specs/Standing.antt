@@ -1,12 +1,10 @@
 -- What standing platters are for, at one choice of their images.
-use Rattle.std.specs.Prelude.{◌≡◌, ◌⊎◌, ℕ, ◌<◌, List, [], Option, Some, IsSomeAnd}
-use Rattle.zb_types.specs.declared.ids.LogId.{LogId}
+use Rattle.std.specs.Prelude.{◌≡◌, ◌⊎◌, [], Option, IsSomeAnd}
 use Rattle.zb_types.specs.declared.ids.ServerId.{ServerId}
-use Rattle.zb_types.specs.declared.tables.HeldUse.{HeldUse}
 use Rattle.zb_types.specs.Tree.{Tree}
 use Rattle.zb_holding.specs.Holding.{View, view_of}
 use Rattle.zb_stripe_laws.specs.PartAtWork.{HasNoEmptyShare}
-use Rattle.zb_tables.specs.Tables.{Tables, Contents, held_at, shown_tree, EachFile, EndsInFile, PointsIn}
+use Rattle.zb_tables.specs.Tables.{Tables, Contents, shown_tree, EachFile, EndsInFile, PointsIn}
 use Rattle.zb_tables.specs.Replay.{Platter}
 use Rattle.zb_tables.specs.Taking.{Sizes, AreTaken}
 use Rattle.zb_tables.specs.Checkpoint.{AreTables}
@@ -18,10 +16,6 @@ use Rattle.zb_recovery.specs.Recovered.{Recovers}
 abbrev pub seen : Sizes → Servers → Option ServerId → View
 seen z st x = view_of z.servers z.fragment st.maps x
 
--- of each held stripe some bytes are committed
-abbrev pub HoldSome : List HeldUse → Type 0
-HoldSome held = (log : LogId) (stripe : ℕ) (h : HeldUse) → held_at log stripe held ≡ Some h → 0 < h.end
-
 -- the file manager's platter says these tables, which show this tree
 pub record Says (z : Sizes) (contents : Contents) (p : Platter) (tables : Tables) (tree : Tree) : Type 0 where
   -- each entry since the checkpoint could be taken, and they lead to the tables
@@ -31,7 +25,6 @@ pub record Says (z : Sizes) (contents : Contents) (p : Platter) (tables : Tables
   pub points : EachFile (PointsIn tables.held) tables.files
   -- no block reaches past its file's end
   pub ends : EachFile (EndsInFile z.block) tables.files
-  pub hold_some : HoldSome tables.held
   -- what the platter's checkpoint says is one
   pub spelled : AreTables z p.tables
 

@@ -10,7 +10,6 @@ ghost use Rattle.zb_tables.specs.Tables.{Contents, SameIn, Tables};
 ghost use Rattle.zb_tables.specs.Fold.{after_retire, attached, with_members};
 ghost use Rattle.zb_tables.specs.Replay.{Platter, with_entry};
 ghost use Rattle.zb_tables.specs.Taking.{CanTake, IsServer, Sizes};
-ghost use Rattle.zb_tables.specs.Checkpoint.{AreTables};
 ghost use Rattle.zb_recovery.specs.Missing.{Servers, is_unfit};
 ghost use Rattle.zb_recovery.specs.Agreeing.{ViewAgrees};
 ghost use Rattle.zb_sound.specs.Standing.{StandFor, seen};
@@ -40,7 +39,7 @@ pub fn changes_keep()
         → CanTake z p tables (Retire log stripe)
         → StandFor z contents (with_entry p (Retire log stripe)) st (after_retire tables log stripe) tree }
     ensures checkpoint { (z : Sizes) (contents : Contents) (p : Platter) (st : Servers) (tables : Tables) (tree : Tree)
-        → StandFor z contents p st tables tree → AreTables z tables
+        → StandFor z contents p st tables tree
         → StandFor z contents (record { tables = tables; entries = [] }) st tables tree }
     ensures away { (z : Sizes) (contents : Contents) (p : Platter) (st new : Servers) (tables : Tables) (tree : Tree) (a : ServerId)
         → StandFor z contents p st tables tree

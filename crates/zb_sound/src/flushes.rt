@@ -22,7 +22,7 @@ ghost use Rattle.zb_tables.specs.Replay.{Platter};
 ghost use Rattle.zb_tables.specs.Taking.{IsOther, IsServer, Sizes, stripe_room};
 ghost use Rattle.zb_recovery.specs.Missing.{Servers, is_unfit};
 ghost use Rattle.zb_sound.specs.Standing.{StandFor, seen};
-ghost use Rattle.zb_sound.specs.Delivering.{after_asked, allowed, CoversHeld, FlushBegins, FlushWorks, ForEach, IsNext, MayGoOn, Missing, PartFits, PartStands, PartsStand, with_parts};
+ghost use Rattle.zb_sound.specs.Delivering.{after_asked, allowed, any_one, CoversHeld, FlushBegins, FlushWorks, ForEach, IsNext, MayGoOn, Missing, PartFits, PartStands, PartsStand, with_parts};
 ghost use Rattle.zb_sound.specs.Changing.{OthersFit, OthersSame};
 ghost use Rattle.zb_sound.specs.Committing.{AreInFlush};
 ghost use Rattle.zb_sound.specs.Staying.{LeavesParts, SameStripe, SameStripes};
@@ -96,11 +96,13 @@ pub fn flush_stays()
         → MayGoOn z contents st held who log part → MayGoOn z new_contents new later after log part }
 {}
 
-/// What leaves the parts of a flush as they are: nothing that changed, a request about other stripes, a server that is
+/// What leaves the parts of a flush as they are: nothing that changed, that only those that the members allow may be
+/// missing in place of any one, a request about other stripes, a server that is
 /// marked out or mending where all others are fit, and whatever becomes of one server that isn't fit. A commit of another
 /// log, and a stripe that is given up, leave what is held of each other stripe.
 pub fn changes_leave_parts()
     ensures nothing { (z : Sizes) (st : Servers) (who : Missing) (log : LogId) (parts : List Part) → LeavesParts z st st who who log parts }
+    ensures fewer { (z : Sizes) (st : Servers) (members : Members) (log : LogId) (parts : List Part) → LeavesParts z st st any_one (allowed members) log parts }
     ensures beside { (z : Sizes) (st : Servers) (who : Missing) (log : LogId) (parts : List Part) (asked : ServerId × Request)
         → IsBesideEach asked.1 log parts → LeavesParts z st (after_asked st asked) who who log parts }
     ensures mark { (z : Sizes) (st : Servers) (before members : Members) (log : LogId) (parts : List Part) (a : ServerId)

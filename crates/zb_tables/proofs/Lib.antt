@@ -17,3 +17,13 @@ pub mod Logs
 pub mod Lookups
 pub mod Versions
 pub mod Living
+pub mod Ordered
+pub mod Alls
+pub mod LogsForm
+pub mod CommitForm
+pub mod Form
+pub mod Counted
+pub mod NamesForm
+pub mod OpsForm
+pub mod TablesForm
+pub mod Fewness

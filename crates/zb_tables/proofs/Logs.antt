@@ -32,7 +32,7 @@ module _ {A : Type 0} (keep : ℕ × A → Bool) where
     | inr other ↦ grind (arith, nat_tests, look-filter_kept k a es)
   ]
 
-  above_kept : (k : ℕ) (es : List (ℕ × A)) → KeysAbove k es → KeysAbove k (filter keep es)
+  pub above_kept : (k : ℕ) (es : List (ℕ × A)) → KeysAbove k es → KeysAbove k (filter keep es)
   above_kept k [] above = tt
   above_kept k (e ∷ es) above = cond_both (keep e) (e ∷ filter keep es) (filter keep es) (KeysAbove k) (λ t. (above.0, above_kept k es above.1)) (λ f. above_kept k es above.1)
 

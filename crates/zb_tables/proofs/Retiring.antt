@@ -1,35 +1,26 @@
 -- What is held once a stripe is let go.
-use Rattle.std.proofs.Common.{◌≡◌, ℕ, Bool, true, false, eqb, List, [], ◌∷◌, Some, None, sym, ap, ◌∙◌, subst, inl, inr, arith}
-use Rattle.std.specs.Prelude.{◌&&◌, if◌then◌else◌}
+use Rattle.std.proofs.Common.{◌≡◌, ℕ, true, false, eqb, List, [], ◌∷◌, None, sym, ap, subst, inl, inr, arith}
+use Rattle.std.specs.Prelude.{◌&&◌}
 use Rattle.std.specs.List.{AllByRecursion}
-use Rattle.std.proofs.lemmas.Bool.{cases_Bool, and_parts, eqb-true, ne_eqb, and_left, and_right}
-use Rattle.std.proofs.lemmas.Option.{none-some, same_Some}
+use Rattle.std.proofs.lemmas.Bool.{and_parts, eqb-true, ne_eqb, and_left, and_right}
 use Rattle.zb_types.specs.declared.ids.LogId.{LogId}
 use Rattle.zb_types.specs.declared.ids.Ptr.{Ptr}
 use Rattle.zb_types.specs.declared.ids.Piece.{Piece}
 use Rattle.zb_types.specs.declared.tables.HeldUse.{HeldUse}
-use Rattle.zb_types.specs.Keyed.{look}
 use Rattle.zb_entries.specs.declared.entry.Entry.{Entry}
 use Rattle.zb_entries.specs.declared.entry.Entry.TheVariants.{Attach, Commit, Mark, Retire}
 use Rattle.zb_tables.specs.Tables.{FileState, held_at, end_of, end_at, EachFile, PointsIn}
 use Rattle.zb_tables.specs.Fold.{retired}
 use Rattle.zb_tables.specs.Replay.{PiecesIn, EntryIn, EntriesIn}
 use Rattle.zb_tables.specs.Taking.{IsOther, PointsElsewhere, IsElsewhere}
+use Rattle.zb_tables.proofs.Alls.{all_keyed}
 use Rattle.zb_tables.proofs.Holding.{held_at-retired_other, held_at-retired_same}
-
--- what holds of each value holds of one that is found
-all_look : (P : Ptr → Type 0) (blocks : List (ℕ × Ptr)) (k : ℕ) (p : Ptr) → AllByRecursion (λ e. P e.1) blocks → look k blocks ≡ Some p → P p
-all_look P [] k p all e = absurd (none-some p e)
-all_look P (d ∷ ds) k p all e = elim (cases_Bool (eqb d.0 k)) as (λ _. P p) [
-  | inl t ↦ subst P (same_Some d.1 p (sym (ap (λ (y : Bool). if y then Some d.1 else look k ds) t) ∙ e)) all.0
-  | inr f ↦ all_look P ds k p all.1 (sym (ap (λ (y : Bool). if y then Some d.1 else look k ds) f) ∙ e)
-]
 
 module _ (held : List HeldUse) (log : LogId) (stripe : ℕ) where
   abbrev pub Less : List HeldUse
   Less = retired log stripe held
 
-  other_false : (l : LogId) (t : ℕ) → IsOther log stripe l t → (eqb l.0 log.0 && eqb t stripe) ≡ false
+  pub other_false : (l : LogId) (t : ℕ) → IsOther log stripe l t → (eqb l.0 log.0 && eqb t stripe) ≡ false
   other_false l t (inl ne) = and_left (eqb l.0 log.0) (eqb t stripe) (ne_eqb l.0 log.0 ne)
   other_false l t (inr ne) = and_right (eqb l.0 log.0) (eqb t stripe) (ne_eqb t stripe ne)
 
@@ -53,7 +44,7 @@ module _ (held : List HeldUse) (log : LogId) (stripe : ℕ) where
   pub both_points : (files : List (ℕ × FileState)) → EachFile (PointsElsewhere log stripe) files → EachFile (PointsIn held) files → EachFile (PointsIn Less) files
   both_points [] other points = tt
   both_points (f ∷ fs) other points =
-      (λ k q e. let o = all_look (λ (r : Ptr). IsOther log stripe r.log r.stripe) (f.1).blocks k q other.0 e in let e' = end_less q.log q.stripe o in let w = points.0 k q e in let r = w.1 in (w.0, omega arith), both_points fs other.1 points.1)
+      (λ k q e. let o = all_keyed (λ (d : ℕ × Ptr). IsOther log stripe (d.1).log (d.1).stripe) k q (f.1).blocks other.0 e in let e' = end_less q.log q.stripe o in let w = points.0 k q e in let r = w.1 in (w.0, omega arith), both_points fs other.1 points.1)
 
   pub gone : (l : LogId) (t : ℕ) → (eqb l.0 log.0 && eqb t stripe) ≡ true → held_at l t Less ≡ None
   gone l t same =

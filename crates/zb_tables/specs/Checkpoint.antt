@@ -88,10 +88,9 @@ pub record AreTables (z : Sizes) (t : Tables) : Type 0 where
   pub next_log : (1 ≤ t.next_log) × (t.next_log ≤ last_number)
   pub next_entry : (1 ≤ t.next_entry) × (t.next_entry ≤ last_value)
 
--- each count of the tables' lists has four bytes, so that they can be spelled
+-- The counts of the tables' lists that have four bytes by no rule of the tables have them, so that the tables can be
+-- spelled: the blocks of each file, the replies of each log, and the held stripes.
 pub record CountsFit (t : Tables) : Type 0 where
   pub blocks : AllByRecursion (λ e. length (e.1).blocks < 2 ^ 32) t.files
   pub replies : AllByRecursion (λ e. length (e.1).replies < 2 ^ 32) t.logs
-  pub files : length t.files < 2 ^ 32
-  pub logs : length t.logs < 2 ^ 32
   pub held : length t.held < 2 ^ 32

@@ -5,6 +5,7 @@
 mod laws;
 mod log_laws;
 mod lookup_laws;
+mod table_laws;
 
 pub use laws::{
     batch_shows_updates, clean_leaves_files, clean_leaves_heads, committed_bytes_decide,
@@ -20,3 +21,4 @@ pub use lookup_laws::{
     batch_leaves_blocks, clean_leaves_blocks, committed_pointers_stay, cut_leaves_files,
     lookups_go_on, updates_leave_files, write_leaves_files,
 };
+pub use table_laws::{entries_leave_tables, tables_have_few};

@@ -1,13 +1,20 @@
-//! Tests of the plain values, the names, the plain tree as a value, and the files' blocks.
+//! Tests of the plain values, the names, and the plain tree as a value; and of the files' blocks, the conflict table and
+//! the file manager, with random batches beside the plain tree.
 #![tactic(auto)]
 
 #[cfg(test)]
 mod conflict;
 #[cfg(test)]
+mod first_run;
+#[cfg(test)]
 mod history;
+#[cfg(test)]
+mod manager;
 #[cfg(test)]
 mod names;
 #[cfg(test)]
 mod pointers;
+#[cfg(test)]
+mod random_batches;
 #[cfg(test)]
 mod types;

@@ -31,13 +31,6 @@ below_put next bytes [] all = (omega arith, tt)
 below_put next bytes (e ∷ es) all =
     subst (AreBelow (next + 1)) (sym (put_last next bytes e es all.0)) (omega (arith, all.0), below_put next bytes es all.1)
 
-without_put : (next : ℕ) (bytes : List ℕ) (files : List (ℕ × List ℕ)) → AreBelow next files → without next (put next bytes files) ≡ files
-without_put next bytes [] all = grind (arith, nat_tests)
-without_put next bytes (e ∷ es) all =
-    let less : e.0 < next = all.0 in
-    let rest = without_put next bytes es all.1 in
-    ap (without next) (put_last next bytes e es less) ∙ grind (arith, nat_tests)
-
 below_replaced : (next k : ℕ) (bytes : List ℕ) (files : List (ℕ × List ℕ)) → AreBelow next files → AreBelow next (replaced k bytes files)
 below_replaced next k bytes [] all = tt
 below_replaced next k bytes (e ∷ es) all =
@@ -57,10 +50,6 @@ below_without next k (e ∷ es) all =
 -- one more file
 pub IsShelf-put : (next : ℕ) (bytes : List ℕ) (files : SeenFiles) → IsShelf next files → IsShelf (next + 1) (record files { files = put next bytes files.files })
 IsShelf-put next bytes files shelf = record { given = below_put next bytes files.files shelf.given; stripes_hold = shelf.stripes_hold }
-
--- what was added under the next number is taken back
-pub without-put : (next : ℕ) (bytes : List ℕ) (files : SeenFiles) → IsShelf next files → without next (put next bytes files.files) ≡ files.files
-without-put next bytes files shelf = without_put next bytes files.files shelf.given
 
 -- the file of an entry, where that was one, is gone
 pub IsShelf-dropped : (next : ℕ) (fid : Option Fid) (files : SeenFiles) → IsShelf next files → IsShelf next (record files { files = files_after [] (change_of fid) files.files })

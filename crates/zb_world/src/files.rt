@@ -11,7 +11,6 @@ use std::marker::Model;
 use zb_blocks::Blocks;
 use zb_types::{ByteList, Fid, Geometry, MAX_FILE, Mem, NoMemory, Ptr};
 
-// The most bytes of a file.
 /// A file: its length in bytes, and where its blocks stand, by number. A slot with no place is a hole.
 #[derive(Drop)]
 struct FileState {

@@ -16,7 +16,6 @@ use zb_types::{
     Call, Fid, Geometry, Listed, MAX_FILE, Mem, NoMemory, Path, Refusal, Reply, TreeEntry, TreeList,
 };
 
-// The most bytes of a file.
 /// The file tree: names, and the files that these number. Contracts see it as the plain tree, with the blocks of
 /// its files.
 #[derive(Drop)]
@@ -192,34 +191,35 @@ impl Shelf {
     }
 
     fn create(&mut self, alloc: Global, path: &Path) -> Mem<()>
-        requires { name_refusal self.old.tree.names (Create path.now) ≡ None }
-        ensures ok { OnOk result (self.new.tree ≡ effect self.old.tree (Create path.now)) }
+        ensures ok { OnOk result (self.new.tree ≡ applied self.old.tree (Create path.now)) }
         ensures err { OnErr result (self.new.tree ≡ self.old.tree) }
         ensures blocks { self.new.blocks ≡ self.old.blocks }
     {
-        let fid = Fid(self.names.next());
-        self.files.add(alloc, fid)?;
-        match self.names.create(alloc, path) {
-            Ok(_) => Ok(()),
-            Err(_) => {
-                self.files.remove(fid);
-                Err(NoMemory)
+        match self.names.prepare_create(alloc, path) {
+            Err(NameFault::NoMemory) => Err(NoMemory),
+            Err(NameFault::Refused(_)) => Ok(()),
+            Ok(prepared) => {
+                self.files.add(alloc, Fid(self.names.next()))?;
+                self.names.apply(prepared);
+                Ok(())
             }
         }
     }
 
     fn mkdir(&mut self, alloc: Global, path: &Path) -> Mem<()>
-        requires { name_refusal self.old.tree.names (Mkdir path.now) ≡ None }
-        ensures ok { OnOk result (self.new.tree ≡ effect self.old.tree (Mkdir path.now)) }
+        ensures ok { OnOk result (self.new.tree ≡ applied self.old.tree (Mkdir path.now)) }
         ensures err { OnErr result (self.new.tree ≡ self.old.tree) }
         ensures blocks { self.new.blocks ≡ self.old.blocks }
     {
-        self.names.mkdir(alloc, path).map_err(|_| NoMemory)
+        match self.names.mkdir(alloc, path) {
+            Ok(()) => Ok(()),
+            Err(NameFault::Refused(_)) => Ok(()),
+            Err(NameFault::NoMemory) => Err(NoMemory),
+        }
     }
 
     fn remove(&mut self, path: &Path)
-        requires { name_refusal self.old.tree.names (Remove path.now) ≡ None }
-        ensures tree { self.new.tree ≡ effect self.old.tree (Remove path.now) }
+        ensures tree { self.new.tree ≡ applied self.old.tree (Remove path.now) }
         ensures blocks { self.new.blocks ≡ self.old.blocks }
     {
         if let Ok(fid) = self.names.remove(path) {
@@ -228,30 +228,40 @@ impl Shelf {
     }
 
     fn rename(&mut self, alloc: Global, from: &Path, to: &Path) -> Mem<()>
-        requires { name_refusal self.old.tree.names (Rename from.now to.now) ≡ None }
-        ensures ok { OnOk result (self.new.tree ≡ effect self.old.tree (Rename from.now to.now)) }
+        ensures ok { OnOk result (self.new.tree ≡ applied self.old.tree (Rename from.now to.now)) }
         ensures err { OnErr result (self.new.tree ≡ self.old.tree) }
         ensures blocks { self.new.blocks ≡ self.old.blocks }
     {
-        self.names.rename(alloc, from, to).map_err(|_| NoMemory)
+        match self.names.rename(alloc, from, to) {
+            Ok(()) => Ok(()),
+            Err(NameFault::Refused(_)) => Ok(()),
+            Err(NameFault::NoMemory) => Err(NoMemory),
+        }
     }
 
     fn write(&mut self, alloc: Global, fid: Fid, offset: u32, bytes: &[u8]) -> Mem<()>
         requires some { 1 ≤ length bytes.now }
-        requires free { refusal_of self.old.tree (Write fid offset bytes.now) ≡ None }
-        ensures ok { OnOk result (self.new.tree ≡ effect self.old.tree (Write fid offset bytes.now)) }
+        ensures ok { OnOk result (self.new.tree ≡ applied self.old.tree (Write fid offset bytes.now)) }
         ensures err { OnErr result (self.new.tree ≡ self.old.tree) }
         ensures stripes { StripesHold self.new.blocks }
     {
+        let _ = &self.files;
+        let end = u64::from(offset) + bytes.len() as u64;
+        if self.refusal_up_to(fid, end).is_some() {
+            return Ok(());
+        }
         self.files.write(alloc, fid, offset, bytes)
     }
 
     fn truncate(&mut self, alloc: Global, fid: Fid, size: u32) -> Mem<()>
-        requires { refusal_of self.old.tree (Truncate fid size) ≡ None }
-        ensures ok { OnOk result (self.new.tree ≡ effect self.old.tree (Truncate fid size)) }
+        ensures ok { OnOk result (self.new.tree ≡ applied self.old.tree (Truncate fid size)) }
         ensures err { OnErr result (self.new.tree ≡ self.old.tree) }
         ensures stripes { StripesHold self.new.blocks }
     {
+        let _ = &self.files;
+        if self.refusal_up_to(fid, u64::from(size)).is_some() {
+            return Ok(());
+        }
         self.files.truncate(alloc, fid, size)
     }
 
@@ -263,9 +273,6 @@ impl Shelf {
         ensures stripes { StripesHold self.new.blocks }
     {
         let _ = &self.files;
-        if self.refusal(call).is_some() {
-            return Ok(());
-        }
         match call {
             Call::Create(path) => self.create(alloc, path),
             Call::Mkdir(path) => self.mkdir(alloc, path),

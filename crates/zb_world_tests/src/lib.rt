@@ -1,5 +1,9 @@
-//! Tests of the world, which call each of its public calls.
+//! Tests of scripts and reports and their texts, and of the world.
 #![tactic(auto)]
 
+#[cfg(test)]
+mod report;
+#[cfg(test)]
+mod scripts;
 #[cfg(test)]
 mod world;

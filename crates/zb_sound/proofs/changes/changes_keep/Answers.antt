@@ -11,7 +11,7 @@ pub returns-clause-retire : goal.returns-clause-retire
 returns-clause-retire c z contents p st tables tree log stripe s can = retire_keeps z contents p st tables tree s log stripe can
 
 pub returns-clause-checkpoint : goal.returns-clause-checkpoint
-returns-clause-checkpoint c z contents p st tables tree s are = checkpoint_keeps z contents p st tables tree s are
+returns-clause-checkpoint c z contents p st tables tree s = checkpoint_keeps z contents p st tables tree s
 
 pub returns-clause-away : goal.returns-clause-away
 returns-clause-away c z contents p st new tables tree a s is unfit others same none = away_keeps z contents p st tables tree s new a is unfit others same none

@@ -1,8 +1,11 @@
-use Rattle.zb_sound.proofs.Staying.{nothing_leaves, beside_leaves, mark_leaves, away_leaves, commit_leaves, retire_leaves}
+use Rattle.zb_sound.proofs.Staying.{nothing_leaves, fewer_leaves, beside_leaves, mark_leaves, away_leaves, commit_leaves, retire_leaves}
 use Rattle.zb_sound.proofs.flushes.changes_leave_parts.Goals as goal
 
 pub returns-clause-nothing : goal.returns-clause-nothing
 returns-clause-nothing c z st who log parts = nothing_leaves z log parts st who
+
+pub returns-clause-fewer : goal.returns-clause-fewer
+returns-clause-fewer c z st members log parts = fewer_leaves z log parts st members
 
 pub returns-clause-beside : goal.returns-clause-beside
 returns-clause-beside c z st who log parts asked is = beside_leaves z log parts st who asked is

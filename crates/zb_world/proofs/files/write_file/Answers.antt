@@ -1,7 +1,5 @@
-use Rattle.std.proofs.Common.{◌≡◌, ℕ, ◌≤◌, List, length, sym, ap, ◌∙◌, arith}
-use Rattle.std.specs.List.{AllZip}
+use Rattle.std.proofs.Common.{◌≡◌, ℕ, ◌≤◌, length, sym, ap, ◌∙◌, arith}
 use Rattle.std.proofs.lemmas.List.Elements.{All-map}
-use Rattle.zb_types.specs.declared.ids.Ptr.{Ptr}
 use Rattle.zb_blocks.specs.Blocks.{SeenBlocks, IsAt}
 use Rattle.zb_world.proofs.InBlocks.Kept.{extends_from, extends_same, on_err_too, shown_kept, laid_kept}
 use Rattle.zb_world.proofs.InBlocks.Writing.{Rewrites, rewrites, all_fit, last_short, zip_length, written_laid, written_shown}

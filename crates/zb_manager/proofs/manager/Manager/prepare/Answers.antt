@@ -6,8 +6,8 @@ use Rattle.zb_tables.specs.Tables.{Tables}
 use Rattle.zb_tables.specs.Fold.{shelf_of}
 use Rattle.zb_manager.specs.Works.{MayWork}
 use Rattle.zb_manager.specs.Plans.{IsPlan, IsWork, Plans}
-use Rattle.zb_manager.specs.HeldStripes.{EndFits}
-use Rattle.zb_manager.specs.Logs.{StripeFits}
+use Rattle.zb_log_tables.specs.HeldStripes.{EndFits}
+use Rattle.zb_log_tables.specs.Logs.{StripeFits}
 use Rattle.zb_manager.specs.declared.prepared.Prepared.{Prepared}
 use Rattle.zb_manager.proofs.Planned.{batch_work}
 use Rattle.zb_manager.proofs.Preparing.{ends_fit, stripes_fit, regen_answers, regen_members}

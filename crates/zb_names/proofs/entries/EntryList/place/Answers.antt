@@ -1,36 +1,15 @@
-use Rattle.std.proofs.Common.{◌≡◌, ◌+◌, ◌-◌, ◌/◌, ◌<◌, ◌++◌, true, false, length, get_or, sym, ap, subst, ◌∙◌, arith}
+use Rattle.std.proofs.Common.{◌++◌, ◌≤◌, length, subst, rules}
 use Rattle.std.specs.Map.{keys_of}
-use Rattle.zb_names.specs.Shown.{listed}
-use Rattle.zb_names.specs.Placing.{SeenEntries, is_less}
-use Rattle.zb_names.proofs.Places.{Between, raised, lowered, key_at, length-keys, length-listed}
+use Rattle.std.proofs.lemmas.List.Sorted.{IsPartitionPoint-from_clause}
+use Rattle.zb_names.specs.Placing.{SeenEntries, IsPlace, is_less}
+use Rattle.zb_names.proofs.Places.{parted, found_place}
 use Rattle.zb_names.proofs.entries.EntryList.place.Goals as goal
 
-pub loop-low-preserved-then-is_less : goal.loop-low-preserved-then-is_less
-loop-low-preserved-then-is_less c =
+pub returns-clause-place : goal.returns-clause-place
+returns-clause-place c =
     let items = c.self.inside.items.items in
     let key = c.args.head.now ++ c.args.tail.now in
-    let low = c.loop-low.low in
-    let high = c.loop-low.high in
-    let test : low < high = c.loop-low-test.true in
-    let middle = low + (high - low) / 2 in
-    let between : Between key (keys_of (listed items)) low high = subst (λ (s : SeenEntries). Between key (keys_of s.entries) low high) (sym c.self.view_is) c.loop-low.invariant in
-    let end = between.within in
-    let lt : middle < length items = omega (arith, length-keys (listed items), length-listed items) in
-    let here = key_at items middle c.index.result.now lt c.index.ensures in
-    let less : is_less (get_or (keys_of (listed items)) middle c.index.result.now.0) key ≡ true = ap (λ p. is_less p key) (here ∙ sym c.slice.ensures.same) ∙ sym c.if-is_less.ensures in
-    rw (← c.self.view_is) (raised key (keys_of (listed items)) low high middle c.index.result.now.0 c.self.invariant between (omega arith) less)
-
-pub loop-low-preserved : goal.loop-low-preserved
-loop-low-preserved c =
-    let items = c.self.inside.items.items in
-    let key = c.args.head.now ++ c.args.tail.now in
-    let low = c.loop-low.low in
-    let high = c.loop-low.high in
-    let test : low < high = c.loop-low-test.true in
-    let middle = low + (high - low) / 2 in
-    let between : Between key (keys_of (listed items)) low high = subst (λ (s : SeenEntries). Between key (keys_of s.entries) low high) (sym c.self.view_is) c.loop-low.invariant in
-    let end = between.within in
-    let lt : middle < length items = omega (arith, length-keys (listed items), length-listed items) in
-    let here = key_at items middle c.index.result.now lt c.index.ensures in
-    let not_less : is_less (get_or (keys_of (listed items)) middle c.index.result.now.0) key ≡ false = ap (λ p. is_less p key) (here ∙ sym c.slice.ensures.same) ∙ sym c.if-is_less.ensures in
-    rw (← c.self.view_is) (lowered key (keys_of (listed items)) low high middle c.index.result.now.0 c.self.invariant between (omega arith) (omega arith) not_less)
+    let i = c.partition_point.result in
+    let within : i ≤ length items = subst (λ xs. i ≤ length xs) c.deref.ensures.value c.partition_point.ensures.bound in
+    let point = IsPartitionPoint-from_clause (λ e. is_less e.0 key) _ _ c.partition_point.ensures.partitioned (rw c.deref.ensures.value (parted key items c.self.invariant)) (λ a r q k. search rules) in
+    subst (λ (s : SeenEntries). IsPlace key (keys_of s.entries) i) c.self.view_is (found_place key items i within (rw c.deref.ensures.value at point))

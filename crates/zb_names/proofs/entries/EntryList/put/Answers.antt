@@ -14,21 +14,9 @@ use Rattle.zb_names.proofs.Inserting.{sorted-with_entry}
 use Rattle.zb_names.proofs.Places.{insert_ok, insert-place, listed-insert, length-listed}
 use Rattle.zb_names.proofs.entries.EntryList.put.Goals as goal
 
-pub invariant_of-self : goal.invariant_of-self
-invariant_of-self c =
-    let items = c.self.inside.items.items in
-    let path = c.args.path in
-    let i = c.place-i.result in
-    let same = append-nil c.slice.result.now ∙ c.slice.ensures.same in
-    let place : IsPlace path (keys_of (listed items)) i = subst (λ p. IsPlace p (keys_of (listed items)) i) same (subst (λ (s : SeenEntries). IsPlace (c.slice.result.now ++ []) (keys_of s.entries) i) (sym c.self.view_is) c.place-i.ensures.place) in
-    let room : length (listed items) < vec_capacity c.self.inside.items = subst (λ (s : SeenEntries). length s.entries < s.room) (sym c.self.view_is) c.requires.room in
-    let ok = insert_ok c.insert.result (vec_capacity c.self.inside.items) (vec_len c.self.inside.items) c.insert.ensures.full (omega (arith, room, c.self.inside.items.ok.0, length-listed items)) in
-    let now = ap listed (c.insert.ensures.items ∙ ap (λ b. if b then insert items i (path, c.args.entry) else items) ok) ∙ listed-insert items i path c.args.entry ∙ insert-place path (seen c.args.entry) (listed items) i place.before place.behind in
-    let absent = subst (λ (s : SeenEntries). has path s.entries ≡ false) (sym c.self.view_is) c.requires.absent in
-    subst (λ s. IsStrictlySortedBy (slice_cmp nat_cmp) (keys_of s)) (sym now) (sorted-with_entry path (seen c.args.entry) (listed items) absent c.self.invariant)
-
-pub returns-clause-entries : goal.returns-clause-entries
-returns-clause-entries c =
+-- what stands there then
+made : (c : goal.Joined-insert) → listed c.insert.new.self.items ≡ with_entry c.args.path (seen c.args.entry) (listed c.self.inside.items.items)
+made c =
     let items = c.self.inside.items.items in
     let path = c.args.path in
     let i = c.place-i.result in
@@ -37,4 +25,13 @@ returns-clause-entries c =
     let room : length (listed items) < vec_capacity c.self.inside.items = subst (λ (s : SeenEntries). length s.entries < s.room) (sym c.self.view_is) c.requires.room in
     let ok = insert_ok c.insert.result (vec_capacity c.self.inside.items) (vec_len c.self.inside.items) c.insert.ensures.full (omega (arith, room, c.self.inside.items.ok.0, length-listed items)) in
     ap listed (c.insert.ensures.items ∙ ap (λ b. if b then insert items i (path, c.args.entry) else items) ok) ∙ listed-insert items i path c.args.entry ∙ insert-place path (seen c.args.entry) (listed items) i place.before place.behind
-    ∙ ap (λ (s : SeenEntries). with_entry path (seen c.args.entry) s.entries) c.self.view_is
+
+pub invariant_of-self : goal.invariant_of-self
+invariant_of-self c =
+    let items = c.self.inside.items.items in
+    let path = c.args.path in
+    let absent = subst (λ (s : SeenEntries). has path s.entries ≡ false) (sym c.self.view_is) c.requires.absent in
+    subst (λ s. IsStrictlySortedBy (slice_cmp nat_cmp) (keys_of s)) (sym (made c)) (sorted-with_entry path (seen c.args.entry) (listed items) absent c.self.invariant)
+
+pub returns-clause-entries : goal.returns-clause-entries
+returns-clause-entries c = made c ∙ ap (λ (s : SeenEntries). with_entry c.args.path (seen c.args.entry) s.entries) c.self.view_is

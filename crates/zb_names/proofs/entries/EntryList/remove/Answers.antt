@@ -37,23 +37,9 @@ returns-then-ne-clause-entries c =
     let apart : bytes_eq path (get_or (keys_of (listed items)) i path) ≡ false = ap (bytes_eq path) (at ∙ sym c.slice.ensures.same) ∙ not-true _ (sym c.if-ne.ensures) in
     subst (λ (s : SeenEntries). s.entries ≡ others path s.entries) c.self.view_is (sym (others-apart path (listed items) i c.self.invariant place.before place.behind (λ _. apart)))
 
-pub invariant_of-self : goal.invariant_of-self
-invariant_of-self c =
-    let items = c.self.inside.items.items in
-    let path = c.args.path.now in
-    let i = c.place-i.result in
-    let place : IsPlace path (keys_of (listed items)) i = subst (λ p. IsPlace p (keys_of (listed items)) i) (append-nil path) (subst (λ (s : SeenEntries). IsPlace (path ++ []) (keys_of s.entries) i) (sym c.self.view_is) c.place-i.ensures.place) in
-    let lt : i < length items = omega (arith, c.if-i-len.false, c.len.ensures, c.self.inside.items.ok.0) in
-    let x = c.index.result.now in
-    let here = key_at items i x lt c.index.ensures in
-    let long : i < length (keys_of (listed items)) = omega (arith, length-keys (listed items), length-listed items) in
-    let same : bytes_eq path x.0 ≡ true = ap (bytes_eq path) (sym c.slice.ensures.same) ∙ not-false _ (sym c.if-ne.ensures) in
-    let at : get_or (keys_of (listed items)) i path ≡ path = get_or_default (keys_of (listed items)) i path x.0 long ∙ here ∙ sym ((bytes_eq-Decides path x.0).0 same) in
-    let now = ap listed c.remove.ensures.items ∙ listed-remove items i ∙ remove-place path (listed items) i c.self.invariant place.before (omega (arith, length-listed items)) at in
-    subst (λ s. IsStrictlySortedBy (slice_cmp nat_cmp) (keys_of s)) (sym now) (sorted-filter (λ e. not (bytes_eq path e.0)) (listed items) c.self.invariant)
-
-pub returns-clause-entries : goal.returns-clause-entries
-returns-clause-entries c =
+-- what stands there then
+left : (c : goal.After-drop-remove) → listed c.remove.new.self.items ≡ others c.args.path.now (listed c.self.inside.items.items)
+left c =
     let items = c.self.inside.items.items in
     let path = c.args.path.now in
     let i = c.place-i.result in
@@ -65,4 +51,9 @@ returns-clause-entries c =
     let same : bytes_eq path x.0 ≡ true = ap (bytes_eq path) (sym c.slice.ensures.same) ∙ not-false _ (sym c.if-ne.ensures) in
     let at : get_or (keys_of (listed items)) i path ≡ path = get_or_default (keys_of (listed items)) i path x.0 long ∙ here ∙ sym ((bytes_eq-Decides path x.0).0 same) in
     ap listed c.remove.ensures.items ∙ listed-remove items i ∙ remove-place path (listed items) i c.self.invariant place.before (omega (arith, length-listed items)) at
-    ∙ ap (λ (s : SeenEntries). others path s.entries) c.self.view_is
+
+pub invariant_of-self : goal.invariant_of-self
+invariant_of-self c = subst (λ s. IsStrictlySortedBy (slice_cmp nat_cmp) (keys_of s)) (sym (left c)) (sorted-filter (λ e. not (bytes_eq c.args.path.now e.0)) (listed c.self.inside.items.items) c.self.invariant)
+
+pub returns-clause-entries : goal.returns-clause-entries
+returns-clause-entries c = left c ∙ ap (λ (s : SeenEntries). others c.args.path.now s.entries) c.self.view_is

@@ -1,0 +1,5 @@
+pub mod Stripes
+pub mod Raising
+pub mod LogPlaces
+pub mod Mapping
+pub mod Changes

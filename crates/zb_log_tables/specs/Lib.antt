@@ -1,0 +1,2 @@
+pub mod HeldStripes
+pub mod Logs

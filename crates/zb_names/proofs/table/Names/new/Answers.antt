@@ -1,6 +1,0 @@
-use Rattle.std.specs.List.Sorted.{IsStrictlySortedBy}
-use Rattle.zb_names.proofs.table.Names.new.Goals as goal
-
-pub of-requires : goal.of-requires
-unfolding IsStrictlySortedBy
-of-requires c = tt

@@ -1,4 +1,4 @@
-ghost use Rattle.std.specs.Prelude.{◌≡◌, ◌+◌, ◌<◌, ◌≤◌, true, None, length, Option};
+ghost use Rattle.std.specs.Prelude.{◌≡◌, ◌+◌, ◌<◌, ◌≤◌, true, false, None, length, Option};
 ghost use Rattle.zb_basis.specs.Looking.{room_of};
 ghost use Rattle.zb_work.specs.Steps.{step_of};
 ghost use Rattle.zb_work.specs.Fitting.{FoundFor};
@@ -13,14 +13,16 @@ use zb_work::{Step, fits_batch, fits_read};
 
 /// Whether a response isn't a want of memory.
 fn has_memory(response: &Response) -> bool
-    ensures { result ≡ true → HasMemory response.now }
+    ensures fits { result ≡ true → HasMemory response.now }
+    ensures differs { result ≡ false → ¬ (HasMemory response.now) }
 {
     !matches!(response, Response::Refused(StoreFault::NoMemory))
 }
 
 /// Whether this may keep a server from being marked.
 fn may_refuse(server: ServerId, fault: MarkFault) -> bool
-    ensures { result ≡ true → IsRefusal server.0 fault }
+    ensures fits { result ≡ true → IsRefusal server.0 fault }
+    ensures differs { result ≡ false → ¬ (IsRefusal server.0 fault) }
 {
     match fault {
         MarkFault::Refused { other } => other.0 != server.0,
@@ -30,7 +32,8 @@ fn may_refuse(server: ServerId, fault: MarkFault) -> bool
 
 /// Whether a batch is behind the members, or behind a version.
 fn is_outdated(fault: CommitFault) -> bool
-    ensures { result ≡ true → IsOutdated fault }
+    ensures fits { result ≡ true → IsOutdated fault }
+    ensures differs { result ≡ false → ¬ (IsOutdated fault) }
 {
     matches!(fault, CommitFault::Regen { .. } | CommitFault::Stale { .. })
 }
@@ -38,7 +41,8 @@ fn is_outdated(fault: CommitFault) -> bool
 impl Client {
     /// Whether this may be found for the next batch, or else for the read.
     fn fits_found(&self, found: &[Found]) -> bool
-        ensures { result ≡ true → FoundFor self.now.block (room_of self.now.servers self.now.fragment) self.now.kept self.now.queue found.now }
+        ensures fits { result ≡ true → FoundFor self.now.block (room_of self.now.servers self.now.fragment) self.now.kept self.now.queue found.now }
+        ensures differs { result ≡ false → ¬ (FoundFor self.now.block (room_of self.now.servers self.now.fragment) self.now.kept self.now.queue found.now) }
     {
         let room = (self.geo.servers - 1) * self.geo.fragment;
         if !self.kept.is_empty() {
@@ -52,7 +56,8 @@ impl Client {
 
     /// Whether the lookup that stands reads names.
     fn reads_names(&self) -> bool
-        ensures { result ≡ true → ReadsNames (lookup_of self.now 0 self.now.kept) }
+        ensures fits { result ≡ true → ReadsNames (lookup_of self.now 0 self.now.kept) }
+        ensures differs { result ≡ false → ¬ (ReadsNames (lookup_of self.now 0 self.now.kept)) }
     {
         if !self.kept.is_empty() {
             return false;
@@ -65,7 +70,8 @@ impl Client {
 
     /// Whether this may answer the lookup that stands.
     fn fits_lookup(&self, tries: u32, answer: &Answer) -> bool
-        ensures { result ≡ true → AnswersLookup self.now (lookup_of self.now tries self.now.kept) answer.now }
+        ensures fits { result ≡ true → AnswersLookup self.now (lookup_of self.now tries self.now.kept) answer.now }
+        ensures differs { result ≡ false → ¬ (AnswersLookup self.now (lookup_of self.now tries self.now.kept) answer.now) }
     {
         match answer {
             Answer::Found(found) => { self.doubted == 0 && self.fits_found(found.slice()) }
@@ -77,7 +83,8 @@ impl Client {
 
     /// Whether this may answer a step's wish.
     fn fits_step(&self, tries: u32, step: &Step, answer: &Answer) -> bool
-        ensures { result ≡ true → AnswersStep self.now tries step.now answer.now }
+        ensures fits { result ≡ true → AnswersStep self.now tries step.now answer.now }
+        ensures differs { result ≡ false → ¬ (AnswersStep self.now tries step.now answer.now) }
     {
         match (step, answer) {
             (Step::Lookup, answer) => self.fits_lookup(tries, answer),
@@ -99,7 +106,8 @@ impl Client {
     /// Whether this may answer the wish that stands. A server whose disk tells nothing may answer anything, so who asks
     /// one looks first.
     pub fn fits(&self, answer: &Answer) -> bool
-        ensures { result ≡ true → Answers self.now answer.now }
+        ensures fits { result ≡ true → Answers self.now answer.now }
+        ensures differs { result ≡ false → ¬ (Answers self.now answer.now) }
     {
         match &self.task {
             Some(task) => self.fits_step(task.tries, &task.step, answer),

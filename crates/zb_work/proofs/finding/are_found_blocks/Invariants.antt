@@ -1,4 +1,4 @@
-use Rattle.std.proofs.Common.{◌≡◌, take}
+use Rattle.std.proofs.Common.{take}
 use Rattle.std.specs.Prelude.{All}
 use Rattle.zb_basis.specs.Looking.{IsFoundBlock}
 use Rattle.zb_work.proofs.finding.are_found_blocks.Given as goal

@@ -5,16 +5,10 @@ ghost use Rattle.zb_basis.specs.Reading.{is_read};
 ghost use Rattle.zb_work.specs.Finding.{RisesFrom};
 
 use zb_basis::{Ask, Numbered, ask_of};
-use zb_types::{Call, Found, Ptr};
-
-/// The last stripe that a log may have.
-const LAST_STRIPE: u64 = 281_474_976_710_656;
+use zb_types::{Call, Found, MAX_FILE, Ptr};
 
 /// The greatest version of a file.
 const MOST_VERSION: u64 = 281_474_976_710_656;
-
-/// The most bytes of a file.
-const MOST_BYTES: u32 = 67_108_864;
 
 /// Whether this may be a block that was found for what was asked, in a stripe with room for so many bytes.
 fn is_found_block(block: u32, room: u32, ask: &Ask, k: u32, ptr: &Ptr) -> bool
@@ -24,7 +18,7 @@ fn is_found_block(block: u32, room: u32, ask: &Ask, k: u32, ptr: &Ptr) -> bool
     if k < ask.first || u64::from(k) >= u64::from(ask.first) + u64::from(ask.count) {
         return false;
     }
-    if ptr.len == 0 || ptr.len > block || ptr.stripe > LAST_STRIPE {
+    if ptr.len == 0 || ptr.len > block {
         return false;
     }
     u64::from(ptr.offset) + u64::from(ptr.len) <= u64::from(room)
@@ -63,7 +57,7 @@ fn may_find(block: u32, room: u32, ask: &Ask, found: &Found) -> bool
     ensures fits { result ≡ true → MayFind block room ask.now found.now }
     ensures differs { result ≡ false → ¬ (MayFind block room ask.now found.now) }
 {
-    if found.version > MOST_VERSION || found.length > MOST_BYTES {
+    if found.version > MOST_VERSION || found.length as usize > MAX_FILE {
         return false;
     }
     let blocks = found.blocks.slice();

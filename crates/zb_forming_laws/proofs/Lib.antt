@@ -6,3 +6,4 @@ pub mod Merges
 pub mod Tracking
 pub mod Stepping
 pub mod Updating
+pub mod Finding

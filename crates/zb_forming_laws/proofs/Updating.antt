@@ -40,15 +40,15 @@ use Rattle.zb_forming_laws.proofs.Stepping.{op-steps}
 
 -- ---- new pointers name as many bytes as stand there
 
-each-front : {A : Type 0} (P : A → Type 0) (xs ys : List A) → AllByRecursion P (xs ++ ys) → AllByRecursion P xs
+pub each-front : {A : Type 0} (P : A → Type 0) (xs ys : List A) → AllByRecursion P (xs ++ ys) → AllByRecursion P xs
 each-front P [] ys all = tt
 each-front P (x ∷ xs) ys all = (all.0, each-front P xs ys all.1)
 
-each-back : {A : Type 0} (P : A → Type 0) (xs ys : List A) → AllByRecursion P (xs ++ ys) → AllByRecursion P ys
+pub each-back : {A : Type 0} (P : A → Type 0) (xs ys : List A) → AllByRecursion P (xs ++ ys) → AllByRecursion P ys
 each-back P [] ys all = all
 each-back P (x ∷ xs) ys all = each-back P xs ys all.1
 
-each-now : (P : Ptr → Type 0) (ds : List Delta) → AllByRecursion P (flat_map (λ d. (body_of d).now ∷ []) ds) → AllByRecursion (λ (d : Delta). P (body_of d).now) ds
+pub each-now : (P : Ptr → Type 0) (ds : List Delta) → AllByRecursion P (flat_map (λ d. (body_of d).now ∷ []) ds) → AllByRecursion (λ (d : Delta). P (body_of d).now) ds
 each-now P [] all = tt
 each-now P (d ∷ ds) all = (all.0, each-now P ds all.1)
 

@@ -1,12 +1,14 @@
 //! From what a client formed to what soundness asks of it: a batch that rests on current lookups and on the blocks that
-//! pointers name is one of its calls, and is found behind its flush; and a read is answered with the file's bytes.
-//! Definitions and their laws alone.
+//! pointers name is one of its calls, is found behind its flush, and its commit takes the tree to that after them; and a
+//! read is answered with the file's bytes. Definitions and their laws alone.
 #![tactic(auto)]
 
 mod batches;
+mod commits;
 mod flushes;
 mod reads;
 
 pub use batches::formed_batches_are_of_updates;
+pub use commits::formed_commits_take_the_tree;
 pub use flushes::{formed_batches_are_found, formed_batches_are_in_form};
 pub use reads::read_replies_are_the_files;

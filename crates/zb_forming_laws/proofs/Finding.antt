@@ -116,6 +116,13 @@ module _ (n f b : ℕ) (log : SeenLog) (number : ℕ) (members : Members) (calls
         record { stripe = omega arith; some = omega arith; within = omega arith })
         Stored.pieces (each-of (GoesNext log.room log.next.stripe given) Parts Stored.next)
 
+    -- the pieces are of the stripe at work or of later ones
+    pub pieces-ahead : AllByRecursion (λ (p : Piece). log.next.stripe ≤ p.stripe) Pieces
+    pieces-ahead =
+        zip-each IsPartOf (GoesNext log.room log.next.stripe given) (λ (p : Piece). log.next.stripe ≤ p.stripe) Pieces Parts
+        (λ piece part same goes. let stripe = same.stripe in let above = goes.above in omega arith)
+        Stored.pieces (each-of (GoesNext log.room log.next.stripe given) Parts Stored.next)
+
     pub some-piece : 1 ≤ length Pieces
     some-piece = by Pieces Parts Stored.whole where
       by : (pieces : List Piece) (parts : List Part) → read_at pieces parts ≡ spelling_of_batch formed.sealed.batch ++ concat is.blocks → 1 ≤ length pieces

@@ -7,3 +7,5 @@ pub mod Tracking
 pub mod Stepping
 pub mod Updating
 pub mod Finding
+pub mod Counting
+pub mod Fewness

@@ -156,10 +156,10 @@ company-is (suc most) (call ∷ calls) =
     ]
 
 -- a run is one call that stands alone, or some that stand together
-abbrev RunIs : List Numbered → Type 0
+abbrev pub RunIs : List Numbered → Type 0
 RunIs calls = ((call : Numbered) × (calls ≡ call ∷ []) × (is_alone call.call ≡ true)) ⊎ InCompany calls
 
-run-is : (kept : List Numbered) → RunIs (run_of kept)
+pub run-is : (kept : List Numbered) → RunIs (run_of kept)
 run-is [] = inr tt
 run-is (call ∷ calls) = cond_both (is_alone call.call) (call ∷ []) (company most_kept (call ∷ calls)) RunIs (λ t. inl (call, refl, t)) (λ f. inr (company-is most_kept (call ∷ calls)))
 

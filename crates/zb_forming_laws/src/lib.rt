@@ -10,5 +10,5 @@ mod reads;
 
 pub use batches::formed_batches_are_of_updates;
 pub use commits::formed_commits_take_the_tree;
-pub use flushes::{formed_batches_are_found, formed_batches_are_in_form};
+pub use flushes::{formed_batches_are_found, formed_batches_may_be_committed};
 pub use reads::read_replies_are_the_files;

@@ -1,4 +1,4 @@
-use Rattle.zb_forming_laws.proofs.Finding.{batch-spelled, blocks-stand, ops-lie, pieces-in}
+use Rattle.zb_forming_laws.proofs.Finding.{batch-spelled, blocks-stand, ops-lie, pieces-ahead, pieces-in}
 use Rattle.zb_forming_laws.proofs.flushes.formed_batches_are_found.Goals as goal
 
 pub returns-clause-stand : goal.returns-clause-stand
@@ -12,3 +12,6 @@ returns-clause-pieces c n f b log number members calls basis formed given is are
 
 pub returns-clause-lie : goal.returns-clause-lie
 returns-clause-lie c n f b log number born members calls basis formed held is = ops-lie n f b log number members calls basis formed is born held
+
+pub returns-clause-ahead : goal.returns-clause-ahead
+returns-clause-ahead c n f b log number members calls basis formed given is are = pieces-ahead n f b log number members calls basis formed is given are

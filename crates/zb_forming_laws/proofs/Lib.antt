@@ -9,3 +9,4 @@ pub mod Updating
 pub mod Finding
 pub mod Counting
 pub mod Fewness
+pub mod Passing

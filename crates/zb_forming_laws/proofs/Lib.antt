@@ -10,3 +10,4 @@ pub mod Finding
 pub mod Counting
 pub mod Fewness
 pub mod Passing
+pub mod UpdateKinds

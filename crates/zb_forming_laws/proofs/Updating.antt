@@ -179,6 +179,13 @@ not-worn false true r e = absurd (none-some (Worn 3) (sym e))
 not-worn false false true e = absurd (none-some (Worn 4) (sym e))
 not-worn false false false e = refl
 
+pub taken-fresh : (b : ℕ) (t : Tables) (batch : Batch) (pieces : List Piece) (generation : ℕ) → commit_refusal b t batch pieces generation ≡ None
+    → (any_wears b batch.ops (shelf_of t) ≡ false) × ((after : Shelf) × (done_ops b batch.ops (shelf_of t) ≡ Ok after))
+taken-fresh b t batch pieces generation taken =
+    let behind = or-none (regen_of t batch.log pieces generation) (or_else (stale_of (done_ops b batch.ops (shelf_of t))) (worn_of b t batch)) taken in
+    let both = or-none (stale_of (done_ops b batch.ops (shelf_of t))) (worn_of b t batch) behind.1 in
+    (not-worn (nat_le last_value t.next_entry) (nat_lt last_value batch.number) (any_wears b batch.ops (shelf_of t)) both.1, fresh-done (done_ops b batch.ops (shelf_of t)) both.0)
+
 -- ---- the files of the tables
 
 good-file : (z : Sizes) (next : ℕ) (e : ℕ × FileState) → EndsInFile z.block e.1 → IsFile z next e → IsGood z.block e.1
@@ -210,8 +217,5 @@ module _ (z : Sizes) (new : Contents) (t : Tables) (calls : List Numbered) (basi
 
   pub of-updates : (generation : ℕ) (pieces : List Piece) (kept : List Numbered) → calls ≡ run_of kept → commit_refusal z.block t batch pieces generation ≡ None → IsOfUpdates z new t batch (updates_of calls)
   of-updates generation pieces kept run taken =
-      let behind = or-none (regen_of t batch.log pieces generation) (or_else (stale_of (done_ops z.block batch.ops (shelf_of t))) (worn_of z.block t batch)) taken in
-      let both = or-none (stale_of (done_ops z.block batch.ops (shelf_of t))) (worn_of z.block t batch) behind.1 in
-      let done = fresh-done (done_ops z.block batch.ops (shelf_of t)) both.0 in
-      by-run done.0 done.1 (not-worn (nat_le last_value t.next_entry) (nat_lt last_value batch.number) (any_wears z.block batch.ops (shelf_of t)) both.1)
-      (subst RunIs (sym run) (run-is kept))
+      let fresh = taken-fresh z.block t batch pieces generation taken in
+      by-run fresh.1.0 fresh.1.1 fresh.0 (subst RunIs (sym run) (run-is kept))

@@ -1,0 +1,13 @@
+pub mod Ranges
+pub mod Standing
+pub mod Reading
+pub mod Anew
+pub mod Merges
+pub mod Tracking
+pub mod Stepping
+pub mod Updating
+pub mod Finding
+pub mod Counting
+pub mod Fewness
+pub mod Passing
+pub mod UpdateKinds

@@ -198,8 +198,8 @@ fn go(run: &mut Run, alloc: Global, steps: u32) -> Mem<bool> {
 fn all_end_once(run: &Run) -> bool {
     let mut number = 0u64;
     for count in &run.ends {
-        let left = stands(&run.client, number);
-        if number > 0 && !(*count == 1 && !left || *count == 0 && left) {
+        let ended = u8::from(!stands(&run.client, number));
+        if number > 0 && *count != ended {
             return false;
         }
         number = number.wrapping_add(1);

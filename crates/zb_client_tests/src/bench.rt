@@ -28,6 +28,10 @@ pub enum Give {
     Regen,
     ManagerDown,
     Doubt,
+    /// No answer: the end of a run.
+    Flush,
+    /// No answer: the batch in doubt was committed.
+    Settle,
 }
 
 /// A call of file 1.

@@ -25,44 +25,249 @@ enum What {
     Other,
 }
 
-/// One step: what it is answered, the kind of the step behind it, and its lines, each with the number of its call.
-#[derive(Clone, Copy)]
-struct Row {
-    give: Give,
-    kind: Kind,
-    first: Option<(u64, What)>,
-    second: Option<(u64, What)>,
-}
+/// One step: what it is answered, the kind of the step behind it, and up to two lines, each with the number of its call.
+type Row = (Give, Kind, Option<(u64, What)>, Option<(u64, What)>);
 
-/// A step without a line.
-fn quiet(give: Give, kind: Kind) -> Row {
-    Row {
-        give,
-        kind,
-        first: None,
-        second: None,
-    }
-}
+/// A write is buffered, and a sync commits both.
+const BUFFERED: [Row; 6] = [
+    (Give::Inside, Kind::Call, Some((1, What::Buffered)), None),
+    (Give::Inside, Kind::Lookup, None, None),
+    (Give::Found, Kind::Store, None, None),
+    (Give::Done, Kind::Store, None, None),
+    (Give::Done, Kind::Commit, None, None),
+    (
+        Give::Committed,
+        Kind::Idle,
+        Some((1, What::Done)),
+        Some((2, What::Done)),
+    ),
+];
 
-/// A step with one line.
-fn tells(give: Give, kind: Kind, number: u64, what: What) -> Row {
-    Row {
-        give,
-        kind,
-        first: Some((number, what)),
-        second: None,
-    }
-}
+/// The eighth update commits all.
+const EIGHTH: [Row; 8] = [
+    (Give::Inside, Kind::Call, Some((1, What::Buffered)), None),
+    (Give::Inside, Kind::Call, Some((2, What::Buffered)), None),
+    (Give::Inside, Kind::Call, Some((3, What::Buffered)), None),
+    (Give::Inside, Kind::Call, Some((4, What::Buffered)), None),
+    (Give::Inside, Kind::Call, Some((5, What::Buffered)), None),
+    (Give::Inside, Kind::Call, Some((6, What::Buffered)), None),
+    (Give::Inside, Kind::Call, Some((7, What::Buffered)), None),
+    (Give::Inside, Kind::Lookup, None, None),
+];
 
-/// A step with a line for calls 1 and 2 each.
-fn tells_two(give: Give, kind: Kind, what: What) -> Row {
-    Row {
-        give,
-        kind,
-        first: Some((1, what)),
-        second: Some((2, what)),
-    }
-}
+/// An operation on names stands alone in its batch.
+const NAMES_ALONE: [Row; 7] = [
+    (Give::Inside, Kind::Call, Some((1, What::Buffered)), None),
+    (Give::Inside, Kind::Lookup, None, None),
+    (Give::Found, Kind::Store, None, None),
+    (Give::Done, Kind::Store, None, None),
+    (Give::Done, Kind::Commit, None, None),
+    (Give::Committed, Kind::Lookup, Some((1, What::Done)), None),
+    (Give::Found, Kind::Store, None, None),
+];
+
+/// A write of a part of a block fetches the block, once for the batch.
+const IN_PART: [Row; 5] = [
+    (Give::Inside, Kind::Call, Some((1, What::Buffered)), None),
+    (Give::Inside, Kind::Call, Some((2, What::Buffered)), None),
+    (Give::Inside, Kind::Lookup, None, None),
+    (Give::Blocks, Kind::Fetch, None, None),
+    (Give::Bytes, Kind::Store, None, None),
+];
+
+/// A store ends as its server says.
+const STORES: [Row; 8] = [
+    (Give::Inside, Kind::Lookup, None, None),
+    (Give::Found, Kind::Store, None, None),
+    (Give::Down, Kind::Mark, None, None),
+    (Give::Marked, Kind::Lookup, None, None),
+    (Give::Found, Kind::Store, None, None),
+    (Give::Old, Kind::Lookup, None, None),
+    (Give::Found, Kind::Store, None, None),
+    (
+        Give::NoSlot,
+        Kind::Idle,
+        Some((1, What::Kept(Why::Space(1)))),
+        None,
+    ),
+];
+
+/// Another server doesn't serve either.
+const NOT_MARKED: [Row; 4] = [
+    (Give::Inside, Kind::Lookup, None, None),
+    (Give::Found, Kind::Store, None, None),
+    (Give::Down, Kind::Mark, None, None),
+    (
+        Give::NotMarked,
+        Kind::Idle,
+        Some((1, What::Kept(Why::Unreachable(2, 3)))),
+        None,
+    ),
+];
+
+/// The file manager is down at a mark.
+const MARK_DOWN: [Row; 4] = [
+    (Give::Inside, Kind::Lookup, None, None),
+    (Give::Found, Kind::Store, None, None),
+    (Give::Down, Kind::Mark, None, None),
+    (
+        Give::ManagerDown,
+        Kind::Idle,
+        Some((1, What::Kept(Why::Down))),
+        None,
+    ),
+];
+
+/// A read is fetched once, and then answered from the cache; one of no stored byte isn't fetched.
+const READS: [Row; 7] = [
+    (Give::Inside, Kind::Lookup, None, None),
+    (Give::Blocks, Kind::Fetch, None, None),
+    (Give::Bytes, Kind::Call, Some((1, What::Bytes(6))), None),
+    (Give::Inside, Kind::Lookup, None, None),
+    (Give::Blocks, Kind::Call, Some((2, What::Bytes(6))), None),
+    (Give::Inside, Kind::Lookup, None, None),
+    (Give::Blocks, Kind::Idle, Some((3, What::Bytes(1))), None),
+];
+
+/// A read goes on through the parity.
+const PARITY: [Row; 5] = [
+    (Give::Inside, Kind::Lookup, None, None),
+    (Give::Blocks, Kind::Fetch, None, None),
+    (Give::Down, Kind::Fetch, None, None),
+    (Give::Bytes, Kind::Fetch, None, None),
+    (Give::Bytes, Kind::Idle, Some((1, What::Bytes(6))), None),
+];
+
+/// A read looks up anew where its block is gone, the server's fence is higher, or a server serves again.
+const READ_ANEW: [Row; 8] = [
+    (Give::Inside, Kind::Lookup, None, None),
+    (Give::Blocks, Kind::Fetch, None, None),
+    (Give::Gone, Kind::Lookup, None, None),
+    (Give::Blocks, Kind::Fetch, None, None),
+    (Give::Old, Kind::Lookup, None, None),
+    (Give::Blocks, Kind::Fetch, None, None),
+    (Give::Down, Kind::Fetch, None, None),
+    (Give::Down, Kind::Lookup, None, None),
+];
+
+/// A read fails where two servers don't answer, and none serves.
+const UNREACHABLE: [Row; 4] = [
+    (Give::Inside, Kind::Lookup, None, None),
+    (Give::Blocks, Kind::Fetch, None, None),
+    (Give::Down, Kind::Fetch, None, None),
+    (
+        Give::Down,
+        Kind::Idle,
+        Some((1, What::Failed(Why::Unreachable(1, 2)))),
+        None,
+    ),
+];
+
+/// A call of names is answered at its lookup; a read fails where the file manager is down.
+const NAMES_READ: [Row; 4] = [
+    (Give::Inside, Kind::Lookup, None, None),
+    (Give::Named, Kind::Call, Some((1, What::Dir)), None),
+    (Give::Inside, Kind::Lookup, None, None),
+    (
+        Give::ManagerDown,
+        Kind::Idle,
+        Some((2, What::Failed(Why::Down))),
+        None,
+    ),
+];
+
+/// A read commits first what is kept.
+const KEPT_FIRST: [Row; 7] = [
+    (Give::Inside, Kind::Call, Some((1, What::Buffered)), None),
+    (Give::Inside, Kind::Lookup, None, None),
+    (Give::Found, Kind::Store, None, None),
+    (Give::Done, Kind::Store, None, None),
+    (Give::Done, Kind::Commit, None, None),
+    (Give::Committed, Kind::Lookup, Some((1, What::Done)), None),
+    (Give::Found, Kind::Idle, Some((2, What::Bytes(0))), None),
+];
+
+/// Kept calls that a finish can't commit end as unfinished.
+const UNFINISHED: [Row; 4] = [
+    (Give::Inside, Kind::Call, Some((1, What::Buffered)), None),
+    (Give::Inside, Kind::Idle, Some((2, What::Buffered)), None),
+    (Give::Flush, Kind::Lookup, None, None),
+    (
+        Give::ManagerDown,
+        Kind::Idle,
+        Some((1, What::Unfinished(Why::Down))),
+        Some((2, What::Unfinished(Why::Down))),
+    ),
+];
+
+/// A batch is in doubt after a doubt for its commit alone, until it is settled.
+const DOUBT: [Row; 8] = [
+    (Give::Inside, Kind::Lookup, None, None),
+    (Give::Found, Kind::Store, None, None),
+    (Give::Done, Kind::Store, None, None),
+    (Give::Done, Kind::Commit, None, None),
+    (
+        Give::Doubt,
+        Kind::Call,
+        Some((1, What::Kept(Why::Down))),
+        None,
+    ),
+    (Give::Inside, Kind::Lookup, None, None),
+    (
+        Give::Doubt,
+        Kind::Idle,
+        Some((2, What::Kept(Why::Down))),
+        None,
+    ),
+    (Give::Settle, Kind::Idle, None, None),
+];
+
+/// A batch that was stale three times is looked up once more, and again where members changed.
+const STALE: [Row; 17] = [
+    (Give::Inside, Kind::Lookup, None, None),
+    (Give::Found, Kind::Store, None, None),
+    (Give::Done, Kind::Store, None, None),
+    (Give::Done, Kind::Commit, None, None),
+    (Give::Stale, Kind::Lookup, None, None),
+    (Give::Found, Kind::Store, None, None),
+    (Give::Done, Kind::Store, None, None),
+    (Give::Done, Kind::Commit, None, None),
+    (Give::Stale, Kind::Lookup, None, None),
+    (Give::Found, Kind::Store, None, None),
+    (Give::Done, Kind::Store, None, None),
+    (Give::Done, Kind::Commit, None, None),
+    (Give::Regen, Kind::Lookup, None, None),
+    (Give::Found, Kind::Store, None, None),
+    (Give::Done, Kind::Store, None, None),
+    (Give::Done, Kind::Commit, None, None),
+    (Give::Stale, Kind::Lookup, None, None),
+];
+
+/// The calls of a client, numbered from 1, whether its servers serve, and its steps.
+type Course = (&'static [Do], u32, &'static [Row]);
+
+const COURSES: [Course; 16] = [
+    (&[Do::Write(0), Do::Sync], 7, &BUFFERED),
+    (&[Do::Write(0); 8], 7, &EIGHTH),
+    (&[Do::Write(0), Do::Create], 7, &NAMES_ALONE),
+    (&[Do::Write(2), Do::Truncate(3), Do::Sync], 7, &IN_PART),
+    (&[Do::Sync], 7, &STORES),
+    (&[Do::Sync], 7, &NOT_MARKED),
+    (&[Do::Sync], 7, &MARK_DOWN),
+    (
+        &[Do::Read(0, 6), Do::Read(0, 6), Do::Read(67_108_863, 1)],
+        7,
+        &READS,
+    ),
+    (&[Do::Read(0, 6)], 7, &PARITY),
+    (&[Do::Read(0, 6)], 7, &READ_ANEW),
+    (&[Do::Read(0, 6)], 0, &UNREACHABLE),
+    (&[Do::Stat, Do::Read(0, 6)], 7, &NAMES_READ),
+    (&[Do::Write(0), Do::Read(0, 1)], 7, &KEPT_FIRST),
+    (&[Do::Write(0), Do::Write(6)], 7, &UNFINISHED),
+    (&[Do::Sync, Do::Sync], 7, &DOUBT),
+    (&[Do::Sync], 7, &STALE),
+];
 
 fn cause_of(cause: Cause) -> Why {
     match cause {
@@ -103,18 +308,33 @@ fn line(told: &Told, i: usize) -> Option<(u64, What)> {
     }
 }
 
-fn is_told(told: &Told, row: &Row) -> bool {
-    line(told, 0) == row.first && line(told, 1) == row.second && line(told, 2).is_none()
+fn is_told(told: &Told, first: Option<(u64, What)>, second: Option<(u64, What)>) -> bool {
+    line(told, 0) == first && line(told, 1) == second && line(told, 2).is_none()
+}
+
+/// What a client tells of one step. None where the answer doesn't fit.
+fn told_of(client: &mut Client, alloc: Global, give: Give, serving: u32) -> Mem<Option<Told>> {
+    match give {
+        Give::Flush => {
+            flush(client);
+            Ok(Some(Told::Nothing))
+        }
+        Give::Settle => {
+            settle(client, true);
+            Ok(Some(Told::Nothing))
+        }
+        _ => step(client, alloc, give, serving),
+    }
 }
 
 /// The place of the first step that comes out otherwise, else how many there are.
 fn run(client: &mut Client, alloc: Global, serving: u32, rows: &[Row]) -> Mem<usize> {
     let mut i = 0usize;
-    for row in rows {
-        let Some(told) = step(client, alloc, row.give, serving)? else {
+    for (give, kind, first, second) in rows {
+        let Some(told) = told_of(client, alloc, *give, serving)? else {
             return Ok(i);
         };
-        if client.kind() != row.kind || !is_told(&told, row) {
+        if client.kind() != *kind || !is_told(&told, *first, *second) {
             return Ok(i);
         }
         i = i.wrapping_add(1);
@@ -133,149 +353,19 @@ fn with_calls(alloc: Global, calls: &[Do]) -> Mem<Client> {
     Ok(client)
 }
 
-/// A sync that stands at its first store.
-fn at_store(alloc: Global) -> Mem<Client> {
-    let mut client = with_calls(alloc, &[Do::Sync])?;
-    run(
-        &mut client,
-        alloc,
-        7,
-        &[
-            quiet(Give::Inside, Kind::Lookup),
-            quiet(Give::Found, Kind::Store),
-        ],
-    )?;
-    Ok(client)
-}
-
-/// A sync that stands at its commit.
-fn at_commit(alloc: Global) -> Mem<Client> {
-    let mut client = at_store(alloc)?;
-    run(
-        &mut client,
-        alloc,
-        7,
-        &[
-            quiet(Give::Done, Kind::Store),
-            quiet(Give::Done, Kind::Commit),
-        ],
-    )?;
-    Ok(client)
-}
-
-/// A read of two blocks that stands at its first fetch.
-fn at_fetch(alloc: Global) -> Mem<Client> {
-    let mut client = with_calls(alloc, &[Do::Read(0, 6)])?;
-    run(
-        &mut client,
-        alloc,
-        7,
-        &[
-            quiet(Give::Inside, Kind::Lookup),
-            quiet(Give::Blocks, Kind::Fetch),
-        ],
-    )?;
-    Ok(client)
+/// How many steps of a course come out as they should.
+fn follow(alloc: Global, course: Course) -> Mem<usize> {
+    let (calls, serving, rows) = course;
+    let mut client = with_calls(alloc, calls)?;
+    run(&mut client, alloc, serving, rows)
 }
 
 #[test]
-fn a_write_is_buffered_and_a_sync_commits_it(rt: HostRuntime) -> Result<(), Fail> {
-    let alloc = rt.alloc();
-    let mut client = with_calls(alloc, &[Do::Write(0), Do::Sync])?;
-    let rows = [
-        tells(Give::Inside, Kind::Call, 1, What::Buffered),
-        quiet(Give::Inside, Kind::Lookup),
-        quiet(Give::Found, Kind::Store),
-        quiet(Give::Done, Kind::Store),
-        quiet(Give::Done, Kind::Commit),
-        tells_two(Give::Committed, Kind::Idle, What::Done),
-    ];
-    assert_eq!(rt; run(&mut client, alloc, 7, &rows)?, 6);
-    assert_eq!(rt; client.kept(0), None);
-    Ok(())
-}
-
-#[test]
-fn the_eighth_update_commits_all(rt: HostRuntime) -> Result<(), Fail> {
-    let alloc = rt.alloc();
-    let mut client = with_calls(alloc, &[Do::Write(0); 8])?;
-    for number in 1..8u64 {
-        let rows = [tells(Give::Inside, Kind::Call, number, What::Buffered)];
-        assert_eq!(rt; run(&mut client, alloc, 7, &rows)?, 1);
+fn each_course_is_followed(rt: HostRuntime) -> Result<(), Fail> {
+    for (i, course) in COURSES.iter().enumerate() {
+        let (_, _, rows) = course;
+        assert_eq!(rt; follow(rt.alloc(), *course)?, rows.len(), "course {i}");
     }
-    let rows = [quiet(Give::Inside, Kind::Lookup)];
-    assert_eq!(rt; run(&mut client, alloc, 7, &rows)?, 1);
-    assert_eq!(rt; client.kept(7), Some(8));
-    Ok(())
-}
-
-#[test]
-fn a_name_operation_stands_alone(rt: HostRuntime) -> Result<(), Fail> {
-    let alloc = rt.alloc();
-    let mut client = with_calls(alloc, &[Do::Write(0), Do::Create])?;
-    let rows = [
-        tells(Give::Inside, Kind::Call, 1, What::Buffered),
-        quiet(Give::Inside, Kind::Lookup),
-        quiet(Give::Found, Kind::Store),
-        quiet(Give::Done, Kind::Store),
-        quiet(Give::Done, Kind::Commit),
-        tells(Give::Committed, Kind::Lookup, 1, What::Done),
-        quiet(Give::Found, Kind::Store),
-    ];
-    assert_eq!(rt; run(&mut client, alloc, 7, &rows)?, 7);
-    assert_eq!(rt; (client.kept(0), client.kept(1)), (Some(2), None));
-    Ok(())
-}
-
-#[test]
-fn a_write_in_part_fetches_its_block(rt: HostRuntime) -> Result<(), Fail> {
-    let alloc = rt.alloc();
-    let mut client = with_calls(alloc, &[Do::Write(2), Do::Truncate(3), Do::Sync])?;
-    let rows = [
-        tells(Give::Inside, Kind::Call, 1, What::Buffered),
-        tells(Give::Inside, Kind::Call, 2, What::Buffered),
-        quiet(Give::Inside, Kind::Lookup),
-        quiet(Give::Blocks, Kind::Fetch),
-        quiet(Give::Bytes, Kind::Store),
-    ];
-    assert_eq!(rt; run(&mut client, alloc, 7, &rows)?, 5);
-    Ok(())
-}
-
-#[test]
-fn a_store_ends_as_its_server_says(rt: HostRuntime) -> Result<(), Fail> {
-    let alloc = rt.alloc();
-    let mut client = at_store(alloc)?;
-    let rows = [
-        quiet(Give::Down, Kind::Mark),
-        quiet(Give::Marked, Kind::Lookup),
-        quiet(Give::Found, Kind::Store),
-        quiet(Give::Old, Kind::Lookup),
-        quiet(Give::Found, Kind::Store),
-        tells(Give::NoSlot, Kind::Idle, 1, What::Kept(Why::Space(2))),
-    ];
-    let n = run(&mut client, alloc, 7, &rows)?;
-    assert!(rt; n >= 5, "a mark, a lookup, a store");
-    assert_eq!(rt; client.kept(0), Some(1));
-    Ok(())
-}
-
-#[test]
-fn a_mark_may_be_refused(rt: HostRuntime) -> Result<(), Fail> {
-    let alloc = rt.alloc();
-    let mut client = at_store(alloc)?;
-    let unreachable = What::Kept(Why::Unreachable(2, 3));
-    let rows = [
-        quiet(Give::Down, Kind::Mark),
-        tells(Give::NotMarked, Kind::Idle, 1, unreachable),
-    ];
-    assert_eq!(rt; run(&mut client, alloc, 7, &rows)?, 2);
-    let mut client = at_store(alloc)?;
-    let rows = [
-        quiet(Give::Down, Kind::Mark),
-        tells(Give::ManagerDown, Kind::Idle, 1, What::Kept(Why::Down)),
-    ];
-    assert_eq!(rt; run(&mut client, alloc, 7, &rows)?, 2);
     Ok(())
 }
 
@@ -287,166 +377,22 @@ fn holds(client: &mut Client, alloc: Global) -> Mem<bool> {
     ))
 }
 
+/// Whether the lookup holds behind so many of the steps of a stale batch.
+fn holds_behind(alloc: Global, steps: usize) -> Mem<bool> {
+    let mut client = with_calls(alloc, &[Do::Sync])?;
+    let (rows, _) = STALE.split_at(steps.min(STALE.len()));
+    run(&mut client, alloc, 7, rows)?;
+    holds(&mut client, alloc)
+}
+
 #[test]
 fn the_lookup_after_three_stale_batches_holds(rt: HostRuntime) -> Result<(), Fail> {
-    let alloc = rt.alloc();
-    let mut client = at_commit(alloc)?;
-    let rows = [
-        quiet(Give::Stale, Kind::Lookup),
-        quiet(Give::Found, Kind::Store),
-        quiet(Give::Done, Kind::Store),
-        quiet(Give::Done, Kind::Commit),
-    ];
-    for _ in 0..2 {
-        assert_eq!(rt; run(&mut client, alloc, 7, &rows)?, 4);
+    for (steps, wanted) in [(5, false), (9, false), (13, false), (17, true)] {
+        assert_eq!(rt;
+            holds_behind(rt.alloc(), steps)?,
+            wanted,
+            "after {steps} steps"
+        );
     }
-    assert_eq!(rt;
-        run(&mut client, alloc, 7, &[quiet(Give::Regen, Kind::Lookup)])?,
-        1
-    );
-    assert_eq!(rt; holds(&mut client, alloc)?, false);
-    let again = [
-        quiet(Give::Found, Kind::Store),
-        quiet(Give::Done, Kind::Store),
-        quiet(Give::Done, Kind::Commit),
-        quiet(Give::Stale, Kind::Lookup),
-    ];
-    assert_eq!(rt; run(&mut client, alloc, 7, &again)?, 4);
-    assert_eq!(rt; holds(&mut client, alloc)?, true);
-    Ok(())
-}
-
-#[test]
-fn a_batch_is_in_doubt_after_its_commit_alone(rt: HostRuntime) -> Result<(), Fail> {
-    let alloc = rt.alloc();
-    let mut client = at_commit(alloc)?;
-    let down = What::Kept(Why::Down);
-    let rows = [tells(Give::Doubt, Kind::Idle, 1, down)];
-    assert_eq!(rt; run(&mut client, alloc, 7, &rows)?, 1);
-    assert_eq!(rt; client.doubt(), Some(1));
-    push(&mut client, alloc, 2, Do::Sync)?;
-    let rows = [
-        quiet(Give::Inside, Kind::Lookup),
-        tells(Give::Doubt, Kind::Idle, 2, down),
-    ];
-    assert_eq!(rt; run(&mut client, alloc, 7, &rows)?, 2);
-    assert_eq!(rt; client.doubt(), Some(1));
-    settle(&mut client, true);
-    assert_eq!(rt; (client.doubt(), client.kept(0)), (None, Some(2)));
-    let mut client = at_commit(alloc)?;
-    let rows = [tells(Give::Doubt, Kind::Idle, 1, down)];
-    assert_eq!(rt; run(&mut client, alloc, 7, &rows)?, 1);
-    settle(&mut client, false);
-    assert_eq!(rt; (client.doubt(), client.kept(0)), (None, Some(1)));
-    Ok(())
-}
-
-#[test]
-fn a_read_is_fetched_once(rt: HostRuntime) -> Result<(), Fail> {
-    let alloc = rt.alloc();
-    let mut client = at_fetch(alloc)?;
-    push(&mut client, alloc, 2, Do::Read(0, 6))?;
-    push(&mut client, alloc, 3, Do::Read(67_108_863, 1))?;
-    let rows = [
-        tells(Give::Bytes, Kind::Call, 1, What::Bytes(6)),
-        quiet(Give::Inside, Kind::Lookup),
-        tells(Give::Blocks, Kind::Call, 2, What::Bytes(6)),
-        quiet(Give::Inside, Kind::Lookup),
-        tells(Give::Blocks, Kind::Idle, 3, What::Bytes(1)),
-    ];
-    assert_eq!(rt; run(&mut client, alloc, 7, &rows)?, 5);
-    Ok(())
-}
-
-#[test]
-fn a_fetch_goes_on_through_parity(rt: HostRuntime) -> Result<(), Fail> {
-    let alloc = rt.alloc();
-    let mut client = at_fetch(alloc)?;
-    let rows = [
-        quiet(Give::Down, Kind::Fetch),
-        quiet(Give::Bytes, Kind::Fetch),
-        tells(Give::Bytes, Kind::Idle, 1, What::Bytes(6)),
-    ];
-    assert_eq!(rt; run(&mut client, alloc, 7, &rows)?, 3);
-    Ok(())
-}
-
-#[test]
-fn a_fetch_that_cannot_go_on(rt: HostRuntime) -> Result<(), Fail> {
-    let alloc = rt.alloc();
-    let mut client = at_fetch(alloc)?;
-    let rows = [
-        quiet(Give::Gone, Kind::Lookup),
-        quiet(Give::Blocks, Kind::Fetch),
-        quiet(Give::Old, Kind::Lookup),
-        quiet(Give::Blocks, Kind::Fetch),
-        quiet(Give::Down, Kind::Fetch),
-        quiet(Give::Down, Kind::Lookup),
-    ];
-    assert_eq!(rt; run(&mut client, alloc, 7, &rows)?, 6);
-    let mut client = at_fetch(alloc)?;
-    assert_eq!(rt;
-        run(&mut client, alloc, 0, &[quiet(Give::Down, Kind::Fetch)])?,
-        1
-    );
-    let Some(told) = step(&mut client, alloc, Give::Down, 0)? else {
-        assert!(rt; false, "a second server doesn't answer");
-        return Ok(());
-    };
-    assert!(rt;
-        matches!(
-            line(&told, 0),
-            Some((1, What::Failed(Why::Unreachable(..))))
-        ),
-        "the read fails"
-    );
-    assert!(rt; client.kind() == Kind::Idle, "it is over");
-    Ok(())
-}
-
-#[test]
-fn a_call_of_names_is_answered_at_its_lookup(rt: HostRuntime) -> Result<(), Fail> {
-    let alloc = rt.alloc();
-    let mut client = with_calls(alloc, &[Do::Stat, Do::Read(0, 6)])?;
-    let rows = [
-        quiet(Give::Inside, Kind::Lookup),
-        tells(Give::Named, Kind::Call, 1, What::Dir),
-        quiet(Give::Inside, Kind::Lookup),
-        tells(Give::ManagerDown, Kind::Idle, 2, What::Failed(Why::Down)),
-    ];
-    assert_eq!(rt; run(&mut client, alloc, 7, &rows)?, 4);
-    Ok(())
-}
-
-#[test]
-fn a_read_commits_what_is_kept_first(rt: HostRuntime) -> Result<(), Fail> {
-    let alloc = rt.alloc();
-    let mut client = with_calls(alloc, &[Do::Write(0), Do::Read(0, 1)])?;
-    let rows = [
-        tells(Give::Inside, Kind::Call, 1, What::Buffered),
-        quiet(Give::Inside, Kind::Lookup),
-        quiet(Give::Found, Kind::Store),
-        quiet(Give::Done, Kind::Store),
-        quiet(Give::Done, Kind::Commit),
-        tells(Give::Committed, Kind::Lookup, 1, What::Done),
-        tells(Give::Found, Kind::Idle, 2, What::Bytes(0)),
-    ];
-    assert_eq!(rt; run(&mut client, alloc, 7, &rows)?, 7);
-    Ok(())
-}
-
-#[test]
-fn kept_calls_end_as_unfinished(rt: HostRuntime) -> Result<(), Fail> {
-    let alloc = rt.alloc();
-    let mut client = with_calls(alloc, &[Do::Write(0), Do::Write(6)])?;
-    let rows = [
-        tells(Give::Inside, Kind::Call, 1, What::Buffered),
-        tells(Give::Inside, Kind::Idle, 2, What::Buffered),
-    ];
-    assert_eq!(rt; run(&mut client, alloc, 7, &rows)?, 2);
-    flush(&mut client);
-    let rows = [tells_two(Give::ManagerDown, Kind::Idle, What::Unfinished(Why::Down))];
-    assert_eq!(rt; run(&mut client, alloc, 7, &rows)?, 1);
-    assert_eq!(rt; client.kept(0), None);
     Ok(())
 }

@@ -309,7 +309,13 @@ fn line(told: &Told, i: usize) -> Option<(u64, What)> {
 }
 
 fn is_told(told: &Told, first: Option<(u64, What)>, second: Option<(u64, What)>) -> bool {
-    line(told, 0) == first && line(told, 1) == second && line(told, 2).is_none()
+    if line(told, 0) != first {
+        return false;
+    }
+    if line(told, 1) != second {
+        return false;
+    }
+    line(told, 2).is_none()
 }
 
 /// What a client tells of one step. None where the answer doesn't fit.

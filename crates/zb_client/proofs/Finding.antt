@@ -1,16 +1,21 @@
 -- What was found and fetched is for the batch, or for the read.
 use Rattle.std.proofs.Common.{◌≡◌, ℕ, zero, suc, ◌+◌, ◌<◌, ◌≤◌, Bool, true, false, List, [], ◌∷◌, length, get_or, Some, None, refl, ap, sym, subst, arith}
-use Rattle.std.specs.Prelude.{All, nat_lt, ◌==◌}
+use Rattle.std.specs.Prelude.{All, nat_lt, ◌==◌, min, if◌then◌else◌}
+use Rattle.std.specs.List.{AllByRecursion}
 use Rattle.std.proofs.lemmas.Bool.{and_parts, eqb-true}
 use Rattle.zb_types.specs.declared.ids.Ptr.{Ptr}
+use Rattle.zb_types.specs.declared.calls.Call.{Call}
+use Rattle.zb_types.specs.declared.calls.Call.TheVariants.{Create, Mkdir, Remove, Rename, Write, Truncate, Sync, Read, List as ListOf, Stat, Find}
 use Rattle.zb_types.specs.declared.tables.Found.{Found}
 use Rattle.zb_cache.specs.Entries.{SeenCache}
 use Rattle.zb_basis.specs.declared.calls.Numbered.{Numbered}
 use Rattle.zb_basis.specs.declared.basis.Basis.{Basis}
 use Rattle.zb_basis.specs.declared.basis.Fetched.{Fetched}
 use Rattle.zb_basis.specs.Runs.{is_alone, company, run_of}
-use Rattle.zb_basis.specs.Looking.{asks_of, room_of, AreFoundFor}
-use Rattle.zb_basis.specs.Wanting.{wanted_by, wanted_by_read, AreFetched}
+use Rattle.zb_basis.specs.Looking.{ask_of, asks_of, room_of, AreFoundFor}
+use Rattle.zb_basis.specs.Wanting.{wanted_by, reaches, wanted_in, wanted_by_read, AreFetched}
+use Rattle.zb_basis.proofs.Each.{each-weaker, all-of}
+use Rattle.zb_basis.proofs.Found.{IsFine, fine, wanted-each, filter-each, EachIs}
 use Rattle.zb_work.specs.Blocks.{slots_of, next_missing, filled, AreSlots}
 use Rattle.zb_work.specs.Fitting.{FoundFor, wanted_for, Rests, IsFetching}
 use Rattle.zb_client.specs.Hearing.{is_whole}
@@ -69,6 +74,38 @@ read_fetched n f b [] [] read doubted basis k r m e = absurd r.found
 read_fetched n f b [] (x ∷ rest) read doubted basis k r m e =
     subst (λ (z : Numbered). AreFetched (wanted_by_read b z.call basis.found) basis.fetched) (sym e) (all_fetched (room_of n f) (wanted_by_read b x.call basis.found) basis.fetched r.slots m)
 
+-- the blocks that are wanted for a read have some bytes
+read_some : (b room : ℕ) (call : Call) (founds : List Found) → EachIs (IsFine b room) founds → AllByRecursion (IsFine b room) (wanted_by_read b call founds)
+read_some b room (Read fid offset len) [] each = tt
+read_some b room (Read fid offset len) (found ∷ []) each = if_there b room found offset len (found.version == 0) each.0
+  where
+    if_there : (b room : ℕ) (found : Found) (offset len : ℕ) (absent : Bool) → AllByRecursion (λ (e : ℕ × Ptr). IsFine b room e.1) found.blocks
+        → AllByRecursion (IsFine b room) (if absent then [] else wanted_in b (min offset found.length) (min (offset + len) found.length) found)
+    if_there b room found offset len true each = tt
+    if_there b room found offset len false each = filter-each (IsFine b room) (reaches b (min offset found.length) (min (offset + len) found.length)) found.blocks each
+read_some b room (Read fid offset len) (found ∷ (other ∷ founds)) each = tt
+read_some b room (Write fid offset text) founds each = tt
+read_some b room (Truncate fid n) founds each = tt
+read_some b room (Create path) founds each = tt
+read_some b room (Mkdir path) founds each = tt
+read_some b room (Remove path) founds each = tt
+read_some b room (Rename path to) founds each = tt
+read_some b room Sync founds each = tt
+read_some b room (ListOf path) founds each = tt
+read_some b room (Stat path) founds each = tt
+read_some b room (Find path) founds each = tt
+
+each_some : (b room : ℕ) (ws : List Ptr) → AllByRecursion (IsFine b room) ws → All (λ (p : Ptr). 0 < p.len) ws
+each_some b room ws each = all-of (λ (p : Ptr). 0 < p.len) ws (each-weaker (IsFine b room) (λ (p : Ptr). 0 < p.len) ws (λ p is. is.some) each)
+
+-- the blocks that are wanted have some bytes
+wanted_some : (b room : ℕ) (kept queue : List Numbered) (found : List Found) → FoundFor b room kept queue found → All (λ (p : Ptr). 0 < p.len) (wanted_for b kept queue found)
+wanted_some b room [] [] found h = absurd h
+wanted_some b room [] (read ∷ rest) found h = each_some b room (wanted_by_read b read.call found) (read_some b room read.call found (fine b room (ask_of b read.call ∷ []) found h.1))
+wanted_some b room (first ∷ others) queue found h =
+    each_some b room (wanted_by b (run_of (first ∷ others)) found)
+    (wanted-each (IsFine b room) b (run_of (first ∷ others)) found (λ g k. false) (fine b room (asks_of b (run_of (first ∷ others))) found h))
+
 -- what the work rests on once it was looked up
 pub rests_first : (n f b : ℕ) (kept queue : List Numbered) (doubted : ℕ) (found : List Found) (wanted : List Ptr) (cache : SeenCache) → doubted ≡ 0 → FoundFor b (room_of n f) kept queue found
     → wanted ≡ wanted_for b kept queue found → All (λ (p : Ptr). p.offset + p.len ≤ room_of n f) wanted
@@ -76,7 +113,8 @@ pub rests_first : (n f b : ℕ) (kept queue : List Numbered) (doubted : ℕ) (fo
 rests_first n f b kept queue doubted found wanted cache d h e fits = record {
   settled = d;
   found = h;
-  slots = subst (λ (ws : List Ptr). AreSlots (room_of n f) ws (slots_of cache wanted)) e (first_slots (room_of n f) cache wanted fits);
+  slots = subst (λ (ws : List Ptr). AreSlots (room_of n f) ws (slots_of cache wanted)) e
+      (first_slots (room_of n f) cache wanted (subst (λ (ws : List Ptr). All (λ (p : Ptr). 0 < p.len) ws) (sym e) (wanted_some b (room_of n f) kept queue found h)) fits);
 }
 
 -- what the work rests on once a block has come

@@ -38,7 +38,7 @@ rests_pushed n f b kept queue x doubted basis h = record {
 
 step_pushed : (n f b : ℕ) (log : SeenLog) (kept queue : List Numbered) (x : Numbered) (doubted : ℕ) (step : Step) → StepFits n f b log kept queue doubted step → StepFits n f b log kept (queue ++ x ∷ []) doubted step
 step_pushed n f b log kept queue x doubted Lookup h = tt
-step_pushed n f b log kept queue x doubted (Fetch basis at ptr plan) h = record { rests = rests_pushed n f b kept queue x doubted basis h.rests; missing = h.missing }
+step_pushed n f b log kept queue x doubted (Fetch basis at ptr plan) h = (record { rests = rests_pushed n f b kept queue x doubted basis h.0.rests; missing = h.0.missing }, h.1)
 step_pushed n f b log kept queue x doubted (Store basis formed) h = h
 step_pushed n f b log kept queue x doubted (Mark server generation) h = h
 step_pushed n f b log kept queue x doubted (Commit basis sealed) h = h

@@ -16,7 +16,7 @@ use Rattle.zb_types.specs.declared.tables.Found.{Found}
 use Rattle.zb_cache.specs.Entries.{SeenCache}
 use Rattle.zb_basis.specs.declared.basis.Fetched.{Fetched}
 use Rattle.zb_work.specs.Blocks.{next_missing, slots_of, asked_for}
-use Rattle.zb_work.specs.Fitting.{wanted_for, Rests, IsFetching, IsStoring}
+use Rattle.zb_work.specs.Fitting.{wanted_for, Rests, IsFetching, Stands, IsStoring}
 use Rattle.zb_client.specs.declared.going.Next.{Next}
 use Rattle.zb_client.specs.declared.going.Next.TheVariants as next
 use Rattle.zb_client.specs.Seen.{SeenClient, at_step}
@@ -24,6 +24,9 @@ use Rattle.zb_client.specs.Telling.{Heard, silent, looks_anew}
 use Rattle.zb_client.specs.Hearing.{log_for, RepliesFirst, HasAll, GoesOnAt, GoesOn, is_whole, with_block, caches, asks, looked_up}
 use Rattle.zb_client.specs.Going.{IsReplyFor, IsNextOfAll, IsNextAt, IsNext, goes_on, MayGoOn, HearsBytes}
 use Rattle.zb_client.proofs.Finding.{rests_filled, whole_long}
+use Rattle.zb_client.proofs.Standing.{start_stands}
+use Rattle.zb_work.proofs.Missing.{missing_some}
+use Rattle.zb_basis.specs.Looking.{room_of}
 
 goes_read : (c : SeenClient) (basis : Basis) (queue : List Numbered) (n : Next) (heard : Heard) → IsNextOfAll c basis [] n → c.queue ≡ queue → goes_on c basis n ≡ heard → RepliesFirst c basis queue heard
 goes_read c basis queue (next.Fetch at ptr plan) heard h q e = absurd h
@@ -79,10 +82,13 @@ may_all c basis (first ∷ others) (next.Reply reply) r h = absurd h
 
 may_at : (c : SeenClient) (basis : Basis) (m : Option (ℕ × Ptr)) (n : Next) → next_missing basis.fetched ≡ m → Rests c.servers c.fragment c.block c.kept c.queue c.doubted basis → IsNextAt c basis m n → MayGoOn c basis n
 may_at c basis None n e r h = may_all c basis c.kept n r h
-may_at c basis (Some m) (next.Fetch at ptr plan) e r h = (
-  r,
-  e ∙ (ap (λ (z : ℕ). Some (z, m.1)) (sym h.0) ∙ ap (λ (z : Ptr). Some (at, z)) (sym h.1)),
-)
+may_at c basis (Some m) (next.Fetch at ptr plan) e r h =
+    let missing : next_missing basis.fetched ≡ Some (at, ptr) = e ∙ (ap (λ (z : ℕ). Some (z, m.1)) (sym h.0) ∙ ap (λ (z : Ptr). Some (at, z)) (sym h.1)) in
+    let some : 0 < ptr.len = missing_some (room_of c.servers c.fragment) (wanted_for c.block c.kept c.queue basis.found) basis.fetched at ptr r.slots missing in (
+      r,
+      missing,
+      subst Stands (sym h.2) (subst (λ (z : Ptr). Stands (start c.servers c.fragment z (readers_out (first_members basis.found).state))) h.1 (start_stands c.servers c.fragment ptr (readers_out (first_members basis.found).state) some)),
+    )
 may_at c basis (Some m) (next.Store formed) e r h = absurd h
 may_at c basis (Some m) (next.Reply reply) e r h = absurd h
 

@@ -3,4 +3,5 @@ pub mod Finding
 pub mod Fits
 pub mod Goings
 pub mod Plain
+pub mod Standing
 pub mod Stripes

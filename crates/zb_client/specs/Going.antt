@@ -25,7 +25,7 @@ use Rattle.zb_work.specs.declared.work.Step.{Step}
 use Rattle.zb_work.specs.declared.work.Step.TheVariants.{Fetch as FetchStep, Store, Mark}
 use Rattle.zb_work.specs.Steps.{with_step, first_members}
 use Rattle.zb_work.specs.Blocks.{next_missing}
-use Rattle.zb_work.specs.Fitting.{Rests, IsNewOf, IsStoring, IsCommitting}
+use Rattle.zb_work.specs.Fitting.{Rests, Stands, IsNewOf, IsStoring, IsCommitting}
 use Rattle.zb_client.specs.declared.going.Next.{Next}
 use Rattle.zb_client.specs.declared.going.Next.TheVariants as next
 use Rattle.zb_client.specs.declared.fetching.Plain.{Plain}
@@ -65,7 +65,8 @@ goes_on c basis (next.Reply reply) = answers_read c (said.Reply reply)
 
 -- the work may go on so
 abbrev pub MayGoOn : SeenClient → Basis → Next → Type 0
-MayGoOn c basis (next.Fetch at ptr plan) = Rests c.servers c.fragment c.block c.kept c.queue c.doubted basis × (next_missing basis.fetched ≡ Some (at, ptr))
+MayGoOn c basis (next.Fetch at ptr plan) =
+    Rests c.servers c.fragment c.block c.kept c.queue c.doubted basis × (next_missing basis.fetched ≡ Some (at, ptr)) × Stands plan
 MayGoOn c basis (next.Store formed) = IsStoring c.servers c.fragment (log_for c basis) c.kept c.doubted formed
 MayGoOn c basis (next.Reply reply) = Unit {0}
 
@@ -113,6 +114,11 @@ PlainAsGot g told = PlainOf g told
 -- what came of a response, if it brought no bytes and memory wasn't wanted
 abbrev pub PlainAs : Result Got NoMemory → Plain → Type 0
 PlainAs came told = IfOk came (λ g. PlainAsGot g told)
+
+-- where the read goes on, a request of it stands
+abbrev pub StandsOn : Reading → Got → Type 0
+StandsOn plan got.More = Stands plan
+StandsOn plan other = Unit {0}
 
 -- the step is a fetch
 abbrev pub IsFetchStep : Step → Type 0

@@ -4,7 +4,8 @@ ghost use Rattle.zb_basis.specs.Runs.{run_of};
 ghost use Rattle.zb_work.specs.declared.work.Aim.{Aim};
 ghost use Rattle.zb_work.specs.declared.work.Aim.TheVariants.{Finish};
 ghost use Rattle.zb_work.specs.Steps.{new_task, next_task, aim_of};
-ghost use Rattle.zb_client.specs.Seen.{SeenClient, kind_of, unready, in_doubt, first_client, settled};
+ghost use Rattle.zb_work.specs.Fitting.{TaskFits, IsBehind};
+ghost use Rattle.zb_client.specs.Seen.{SeenClient, IsLogOf, HasGiven, kind_of, unready, in_doubt, first_client, settled};
 
 use std::alloc::Global;
 use std::collections::VecDeque;
@@ -39,7 +40,7 @@ pub struct Client {
 }
 
 impl Model for Client {
-    ghost use Rattle.std.specs.Prelude.{is_some, length, option_map, vec_capacity};
+    ghost use Rattle.std.specs.Prelude.{◌≤◌, is_some, length, option_map, vec_capacity};
     ghost use Rattle.zb_client.specs.Seen.{SeenClient, IsKept, HasGiven, HasRoom};
 
     ghost Value = { SeenClient };
@@ -62,7 +63,8 @@ impl Model for Client {
 
     ghost invariant = { λ a. IsKept a.geo.servers a.geo.fragment a.geo.block a.log_id a.log a.kept.items a.queue.items a.task a.flushed a.doubted
         × HasGiven a.log
-        × HasRoom (length a.kept.items) (option_map (λ v. v.items) a.spare) (option_map (λ v. vec_capacity v) a.spare) };
+        × HasRoom (length a.kept.items) (option_map (λ v. v.items) a.spare) (option_map (λ v. vec_capacity v) a.spare)
+        × (1 ≤ a.batch) };
 }
 
 /// So many of the kept calls leave, and the next batch or the read is at work.
@@ -97,6 +99,23 @@ impl Client {
             cache: BlockCache::new(alloc, MOST_CACHED)?,
             spare: None,
         })
+    }
+
+    /// What is true of each client; it runs no code. Its log has the sizes of the system, has given some bytes of its
+    /// stripe, and goes on behind its last flush; its batches are numbered from 1; updates alone are kept, those in doubt
+    /// among them. What was found and the blocks that are there are for the work at hand. While a batch is stored or
+    /// committed none is in doubt, and its operations are as many as the calls of the next batch.
+    pub fn knows(&self)
+        ensures log { IsLogOf self.now.servers self.now.fragment self.now.block self.now.log.log self.now.log }
+        ensures given { HasGiven self.now.log }
+        ensures behind { IfSome self.now.flushed (IsBehind self.now.log) }
+        ensures numbered { 1 ≤ self.now.batch }
+        ensures updates { All (λ call. is_update call.call ≡ true) self.now.kept }
+        ensures in_doubt { self.now.doubted ≤ length self.now.kept }
+        ensures work { TaskFits self.now.servers self.now.fragment self.now.block self.now.log self.now.kept self.now.queue self.now.doubted self.now.task }
+    {
+        // Names a field, so that what holds of the client's fields is known here.
+        let _ = &self.kept;
     }
 
     /// The kind of the next step, `Idle` where there is none.

@@ -1,17 +1,17 @@
 ghost use Rattle.std.specs.Prelude.{◌≡◌, ℕ, List, ◌+◌, ◌-◌, ◌<◌, ◌≤◌, ◌&&◌, ◌==◌, nat_lt, IfOk, IsErrOf, OnOk, OnErr, length, true, false, [], Option, Some, drop};
 ghost use Rattle.std.specs.Bool.{MatchBool};
-ghost use Rattle.zb_stripe.specs.Reading.{asked, Answers};
+ghost use Rattle.zb_stripe.specs.Reading.{asked, fed, Answers, MayWant};
 ghost use Rattle.zb_log.specs.declared.placed.LogFault.TheVariants.{Worn, NoMemory as OutOfMemory};
 ghost use Rattle.zb_log.specs.Logs.{SeenLog};
 ghost use Rattle.zb_basis.specs.declared.calls.Numbered.{Numbered};
 ghost use Rattle.zb_work.specs.Steps.{step_of};
 ghost use Rattle.zb_work.specs.Blocks.{next_missing, shifted};
-ghost use Rattle.zb_work.specs.Fitting.{Rests, IsFetching, TaskFits};
+ghost use Rattle.zb_work.specs.Fitting.{Rests, IsFetching, Stands, TaskFits};
 ghost use Rattle.zb_client.specs.Seen.{at_step};
 ghost use Rattle.zb_client.specs.Telling.{Heard, looks_anew};
 ghost use Rattle.zb_client.specs.Answering.{CanFetch, brings_bytes};
 ghost use Rattle.zb_client.specs.Hearing.{HearsFetch, HearsGot, GoesOn, WearsFetch, WearsGot, CannotGo, serves, hears_unreachable, is_whole, with_block, caches};
-ghost use Rattle.zb_client.specs.Going.{IsNext, IsFedCopy, IsFetchStep, HearsFed, HearsBytes, HearsBlock, WearsBlock, WearsFed, FedRead, PlainAs, hears_plain, reads_on};
+ghost use Rattle.zb_client.specs.Going.{IsNext, IsFedCopy, IsFetchStep, HearsFed, HearsBytes, HearsBlock, WearsBlock, WearsFed, FedRead, PlainAs, StandsOn, hears_plain, reads_on};
 
 use crate::client::Client;
 use crate::going::Next;
@@ -49,9 +49,22 @@ fn brings_bytes(response: &Response) -> bool
     matches!(response, Response::Bytes(_) | Response::Parity { .. })
 }
 
-/// Feeds a response to the read that is under way.
+/// Feeds a response without bytes to a read, of which a request stands still.
+fn feed_plain(plan: &mut ReadPlan, alloc: Global, response: &Response) -> Mem<Got>
+    requires answers { Answers plan.old.servers (asked plan.old) response.now }
+    requires plain { brings_bytes response.now ≡ false }
+    ensures ok { OnOk result (plan.new ≡ (fed plan.old response.now).0) }
+    ensures got { IfOk result (λ got. got ≡ (fed plan.old response.now).1) }
+    ensures cause { OnErr result (MayWant response.now) }
+    ensures stands { Stands plan.old → Stands plan.new }
+{
+    plan.feed(alloc, response)
+}
+
+/// Feeds a response without bytes to the read that is under way.
 fn feed_read(task: &mut Option<Task>, alloc: Global, response: &Response) -> Mem<Got>
-    requires { CanFetch (step_of task.old) response.now }
+    requires can { CanFetch (step_of task.old) response.now }
+    requires plain { brings_bytes response.now ≡ false }
     ensures fed { FedRead task.old (step_of task.old) response.now task.new result }
     ensures fits { (n f b : ℕ) (log : SeenLog) (kept queue : List Numbered) (doubted : ℕ)
         → TaskFits n f b log kept queue doubted task.old → TaskFits n f b log kept queue doubted task.new }
@@ -64,7 +77,7 @@ fn feed_read(task: &mut Option<Task>, alloc: Global, response: &Response) -> Mem
             plan,
         } => {
             let mut plan = plan;
-            let came = plan.feed(alloc, response);
+            let came = feed_plain(&mut plan, alloc, response);
             put_step(
                 task,
                 Step::Fetch {
@@ -180,7 +193,8 @@ impl Client {
 
     /// The read goes on.
     fn read_on(&mut self, plan: ReadPlan) -> Told
-        requires { IsFetchStep (step_of self.old.task) }
+        requires fetch { IsFetchStep (step_of self.old.task) }
+        requires stands { Stands plan }
         ensures { reads_on self.old (step_of self.old.task) plan ≡ record { client = self.new; told = result } }
     {
         match take_step(&mut self.task) {
@@ -279,6 +293,7 @@ impl Client {
     ) -> Result<Told, LogFault>
         requires ready { self.old.is_ready ≡ true }
         requires fetching { IsFetching self.old.servers self.old.fragment self.old.block self.old.kept self.old.queue self.old.doubted basis at ptr }
+        requires stands { Stands plan }
         ensures ok { IfOk result (λ told. HearsBytes self.old basis at ptr bytes (record { client = self.new; told = told })) }
         ensures err { OnErr result (self.new ≡ at_step self.old (Step.Fetch basis at ptr plan)) }
         ensures worn { IsErrOf result Worn → CannotGo self.old (with_block basis at ptr bytes) }
@@ -336,6 +351,7 @@ impl Client {
     ) -> Result<Told, LogFault>
         requires ready { self.old.is_ready ≡ true }
         requires fetch { IsFetchStep (step_of self.old.task) }
+        requires stands { StandsOn plan got }
         ensures ok { IfOk result (λ told. HearsFed self.old (step_of self.old.task) plan got serving (record { client = self.new; told = told })) }
         ensures err { OnErr result (self.new ≡ self.old) }
         ensures worn { IsErrOf result Worn → WearsFed self.old (step_of self.old.task) got }

@@ -1,14 +1,15 @@
-ghost use Rattle.std.specs.Prelude.{◌≡◌, ◌<◌, IfOk, map, true, Option, option_map, slice_get};
+ghost use Rattle.std.specs.Prelude.{◌≡◌, ◌⊎◌, ◌<◌, IfOk, map, true, Option, option_map, slice_get};
 ghost use Rattle.zb_types.specs.declared.ids.ServerId.{ServerId};
 ghost use Rattle.zb_types.specs.declared.requests.Request.{Request};
 ghost use Rattle.zb_basis.specs.Looking.{ask_of, asks_of};
+ghost use Rattle.zb_client.specs.Seen.{kind_of};
 ghost use Rattle.zb_client.specs.Wishing.{wish_of, step_wish, lookup_of, queue_lookup, read_lookup, request_wish};
 
 use crate::client::Client;
 use crate::steps::{AskList, Lookup, Turn, Wish};
 use std::alloc::Global;
 use zb_basis::{Numbered, ask_of};
-use zb_types::{Call, Mem, Request, ServerId};
+use zb_types::{Call, Kind, Mem, Request, ServerId};
 use zb_work::{Step, members_of};
 
 /// How many Stale answers a batch may have before its lookup holds the file manager.
@@ -95,10 +96,12 @@ impl Client {
         }
     }
 
-    /// What the next step wants: nothing, a move inside, a request to a server, or a turn of the file manager.
+    /// What the next step wants: nothing, a move inside, a request to a server, or a turn of the file manager. It is
+    /// nothing only where there is no work and no call is queued, or while a batch is stored.
     pub fn wish(&self, alloc: Global) -> Mem<Wish>
         requires { self.now.is_ready ≡ true }
-        ensures { IfOk result (λ wish. wish ≡ wish_of self.now) }
+        ensures exact { IfOk result (λ wish. wish ≡ wish_of self.now) }
+        ensures idle { wish_of self.now ≡ Wish.Idle → (kind_of self.now ≡ Kind.Idle) ⊎ (kind_of self.now ≡ Kind.Store) }
     {
         match &self.task {
             Some(task) => self.step_wish(alloc, task.tries, &task.step),

@@ -116,7 +116,7 @@ unfilled (b ∷ bs) at p bytes h = elim (cases_at b bs at p h) [
 slot_first : (room : ℕ) (w : Ptr) (b : Fetched) (p : Ptr) (bytes : List ℕ) → IsSlot room w b → b.ptr ≡ p → length bytes ≡ p.len → IsSlot room w (record { ptr = p; bytes = bytes })
 slot_first room w b p bytes s same long =
     let q : p ≡ w = sym same ∙ s.is_from in
-    record { is_from = q; long = λ _. long ∙ ap (λ (z : Ptr). z.len) q; within = s.within }
+    record { is_from = q; long = λ _. long ∙ ap (λ (z : Ptr). z.len) q; some = s.some; within = s.within }
 
 -- the blocks are still those that are wanted
 pub slots_filled : (room : ℕ) (ws : List Ptr) (bs : List Fetched) (at : ℕ) (p : Ptr) (bytes : List ℕ) → AreSlots room ws bs → next_missing bs ≡ Some (at, p) → length bytes ≡ p.len
@@ -135,6 +135,15 @@ missing_fits room [] (b ∷ bs) at p s h = absurd s
 missing_fits room (w ∷ ws) (b ∷ bs) at p s h = elim (cases_at b bs at p h) [
   | inl x ↦ subst (λ (z : Ptr). z.offset + z.len ≤ room) (sym s.0.is_from ∙ x.ptr) s.0.within
   | inr y ↦ missing_fits room ws bs y.place p s.1 y.found
+]
+
+-- the missing block has some bytes
+pub missing_some : (room : ℕ) (ws : List Ptr) (bs : List Fetched) (at : ℕ) (p : Ptr) → AreSlots room ws bs → next_missing bs ≡ Some (at, p) → 0 < p.len
+missing_some room ws [] at p s h = absurd (cc h)
+missing_some room [] (b ∷ bs) at p s h = absurd s
+missing_some room (w ∷ ws) (b ∷ bs) at p s h = elim (cases_at b bs at p h) [
+  | inl x ↦ subst (λ (z : Ptr). 0 < z.len) (sym s.0.is_from ∙ x.ptr) s.0.some
+  | inr y ↦ missing_some room ws bs y.place p s.1 y.found
 ]
 
 none_here : (b : Fetched) (bs : List Fetched) (t : Bool) (found : Option (ℕ × Ptr)) → is_missing b ≡ t → next_missing bs ≡ found → next_missing (b ∷ bs) ≡ None → (is_missing b ≡ false) × (next_missing bs ≡ None)
@@ -160,9 +169,9 @@ long_or_none p (Some bytes) e = by_test p bytes (length bytes == p.len) refl e
     by_test p bytes false t e = absurd (cc (rw t at e))
 
 -- what is in a cache of the blocks that are wanted
-pub first_slots : (room : ℕ) (cache : SeenCache) (ws : List Ptr) → All (λ (p : Ptr). p.offset + p.len ≤ room) ws → AreSlots room ws (slots_of cache ws)
-first_slots room cache [] fits = tt
-first_slots room cache (w ∷ ws) fits = (
-  record { is_from = refl; long = long_or_none w (bytes_under w cache.entries); within = fits 0 w (omega arith) },
-  first_slots room cache ws (λ k x below. fits (suc k) x (omega arith)),
+pub first_slots : (room : ℕ) (cache : SeenCache) (ws : List Ptr) → All (λ (p : Ptr). 0 < p.len) ws → All (λ (p : Ptr). p.offset + p.len ≤ room) ws → AreSlots room ws (slots_of cache ws)
+first_slots room cache [] some fits = tt
+first_slots room cache (w ∷ ws) some fits = (
+  record { is_from = refl; long = long_or_none w (bytes_under w cache.entries); some = some 0 w (omega arith); within = fits 0 w (omega arith) },
+  first_slots room cache ws (λ k x below. some (suc k) x (omega arith)) (λ k x below. fits (suc k) x (omega arith)),
 )

@@ -1,5 +1,5 @@
 -- The old blocks that a batch or a read wants: those that are there, and those that are missing still.
-use Rattle.std.specs.Prelude.{◌≡◌, ℕ, ◌+◌, ◌≤◌, ◌==◌, Bool, false, if◌then◌else◌, List, [], ◌∷◌, fold, length, map, slice_set, Option, Some, None, option_map}
+use Rattle.std.specs.Prelude.{◌≡◌, ℕ, ◌+◌, ◌<◌, ◌≤◌, ◌==◌, Bool, false, if◌then◌else◌, List, [], ◌∷◌, fold, length, map, slice_set, Option, Some, None, option_map}
 use Rattle.std.specs.List.{AllZip}
 use Rattle.zb_types.specs.declared.ids.Ptr.{Ptr}
 use Rattle.zb_cache.specs.Entries.{SeenCache, bytes_under, after_put, after_use}
@@ -26,6 +26,11 @@ is_missing block = length block.bytes == 0
 abbrev pub shifted : ℕ → Option (ℕ × Ptr) → Option (ℕ × Ptr)
 shifted n found = option_map (λ m. (m.0 + n, m.1)) found
 
+-- the blocks that are there, as pairs of pointer and bytes
+abbrev pub there : List Fetched → List (Ptr × List ℕ)
+there [] = []
+there (block ∷ blocks) = if is_missing block then there blocks else (block.ptr, block.bytes) ∷ there blocks
+
 -- the place of the first block that is missing, and its pointer
 abbrev pub next_missing : List Fetched → Option (ℕ × Ptr)
 next_missing [] = None
@@ -35,10 +40,11 @@ next_missing (block ∷ blocks) = if is_missing block then Some (0, block.ptr) e
 abbrev pub filled : List Fetched → ℕ → Ptr → List ℕ → List Fetched
 filled blocks at p bytes = slice_set blocks at (record { ptr = p; bytes = bytes })
 
--- the block under this pointer, which ends within its stripe, and has all its bytes unless it is missing
+-- the block under this pointer, which has some bytes and ends within its stripe; it has them all unless it is missing
 pub record IsSlot (room : ℕ) (p : Ptr) (block : Fetched) : Type 0 where
   pub is_from : block.ptr ≡ p
   pub long : is_missing block ≡ false → length block.bytes ≡ p.len
+  pub some : 0 < p.len
   pub within : p.offset + p.len ≤ room
 
 -- the blocks are those that are wanted, in order

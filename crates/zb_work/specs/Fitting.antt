@@ -1,11 +1,12 @@
 -- What is true of a client's work, beside the calls that the client keeps and has queued.
-use Rattle.std.specs.Prelude.{◌≡◌, ℕ, ◌+◌, ◌≤◌, true, List, [], ◌∷◌, length, All, Option, Some}
+use Rattle.std.specs.Prelude.{◌≡◌, ℕ, ◌+◌, ◌≤◌, true, List, [], ◌∷◌, length, All, Option, Some, is_some}
 use Rattle.zb_types.specs.declared.ids.Ptr.{Ptr}
 use Rattle.zb_types.specs.declared.tables.Found.{Found}
 use Rattle.zb_log.specs.Logs.{SeenLog, ForGiven, IsSealed, flush_of, end_with, last_of}
 use Rattle.zb_log.specs.declared.placed.Placed.{Placed}
 use Rattle.zb_stripe.specs.declared.flush.FreshFlush.{FreshFlush}
 use Rattle.zb_stripe.specs.Fresh.{IsFreshFlush}
+use Rattle.zb_stripe.specs.Reading.{Reading, asked}
 use Rattle.zb_log.specs.Places.{place, IsUpTo}
 use Rattle.zb_log.specs.Placing.{last_stripe}
 use Rattle.zb_basis.specs.declared.calls.Numbered.{Numbered}
@@ -55,6 +56,10 @@ pub record IsFetching (n f b : ℕ) (kept queue : List Numbered) (doubted : ℕ)
   pub rests : Rests n f b kept queue doubted basis
   pub missing : next_missing basis.fetched ≡ Some (at, ptr)
 
+-- a request of the read stands
+abbrev pub Stands : Reading → Type 0
+Stands plan = is_some (asked plan) ≡ true
+
 -- these are new of a flush behind the bytes that a log gave of its stripe, which ends where the log is to go on
 pub record IsNewOf (n f : ℕ) (log : SeenLog) (placed : Placed) (fresh : FreshFlush) (given : List ℕ) : Type 0 where
   pub new : List ℕ
@@ -75,10 +80,10 @@ pub record IsCommitting (kept : List Numbered) (doubted : ℕ) (sealed : Sealed)
   pub settled : doubted ≡ 0
   pub count : length sealed.batch.ops ≡ length (run_of kept)
 
--- what is true of a step: while a batch is in doubt, it is a lookup
+-- what is true of a step: while a batch is in doubt, it is a lookup; of a fetch a request stands
 abbrev pub StepFits : ℕ → ℕ → ℕ → SeenLog → List Numbered → List Numbered → ℕ → Step → Type 0
 StepFits n f b log kept queue doubted Lookup = Unit {0}
-StepFits n f b log kept queue doubted (Fetch basis at ptr plan) = IsFetching n f b kept queue doubted basis at ptr
+StepFits n f b log kept queue doubted (Fetch basis at ptr plan) = IsFetching n f b kept queue doubted basis at ptr × Stands plan
 StepFits n f b log kept queue doubted (Store basis formed) = IsStoring n f log kept doubted formed
 StepFits n f b log kept queue doubted (Mark server generation) = doubted ≡ 0
 StepFits n f b log kept queue doubted (Commit basis sealed) = IsCommitting kept doubted sealed

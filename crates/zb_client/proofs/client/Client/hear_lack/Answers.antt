@@ -3,6 +3,15 @@ use Rattle.zb_client.specs.Seen.{SeenClient}
 use Rattle.zb_client.proofs.Plain.{plain_heard}
 use Rattle.zb_client.proofs.client.Client.hear_lack.Goals as goal
 
+pub invariant_of-self : goal.invariant_of-self
+invariant_of-self c =
+    let k = c.self.invariant.0 in (
+      record { log_is = k.log_is; behind = k.behind; updates = k.updates; in_doubt = k.in_doubt; work = c.feed_read-came.ensures.fits _ _ _ _ _ _ _ k.work },
+      c.self.invariant.1,
+      c.self.invariant.2,
+      c.self.invariant.3,
+    )
+
 pub returns : goal.returns
 returns c =
     let client : SeenClient = record {

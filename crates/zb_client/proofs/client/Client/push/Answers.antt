@@ -6,4 +6,5 @@ invariant_of-self-2 c = (
   kept_pushed _ _ _ _ _ _ c.self.inside.queue.items _ (record { number = c.args.number; call = c.args.call }) _ _ _ c.self.invariant.0 c.in_ok-push_back.ensures.items,
   c.self.invariant.1,
   record { empty = tt; lines = tt },
+  c.self.invariant.3,
 )

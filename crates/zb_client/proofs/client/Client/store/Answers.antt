@@ -6,4 +6,5 @@ invariant_of-self c = (
   record { log_is = search rules; behind = search rules; updates = search rules; in_doubt = search rules; work = search rules },
   c.renew.ensures.given c.self.invariant.1,
   search rules,
+  c.self.invariant.3,
 )

@@ -17,4 +17,5 @@ invariant_of-self c =
         are = c.go_on.ensures.given old.given (flush_of c.self.inside.log old.given c.args.sealed.placed one.new) old.are fresh one.end;
       },
       search rules,
+      c.self.invariant.3,
     )

@@ -6,21 +6,21 @@ use zb_log::{Placed, PtrList};
 use zb_stripe::{FreshFlush, WritePlan};
 use zb_types::{ByteList, Found, Geometry, ItemList, LogId, Members, Ptr, ServerId, State};
 
-/// A block that was fetched.
+/// A block that is wanted: with all its bytes once it was fetched, with none before.
 #[derive(Drop)]
 pub struct Fetched {
     pub ptr: Ptr,
     pub bytes: ByteList,
 }
 
-/// Blocks that were fetched, in order.
+/// Blocks that are wanted, in order.
 pub type FetchedList = ItemList<Fetched>;
 
 /// What lookups found, one for each that was asked.
 pub type FoundList = ItemList<Found>;
 
-/// What a batch or a read rests on: what lookups found for its calls, the old blocks that are wanted, and those of them
-/// that were fetched so far, in the same order.
+/// What a batch or a read rests on: what lookups found for its calls, the old blocks that are wanted, and each of these
+/// in the same order with its bytes, or with none while it is missing.
 #[derive(Drop)]
 pub struct Basis {
     pub found: FoundList,

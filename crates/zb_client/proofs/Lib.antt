@@ -1,4 +1,5 @@
 pub mod Again
+pub mod Aims
 pub mod Finding
 pub mod Fits
 pub mod Goings

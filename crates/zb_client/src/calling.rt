@@ -1,5 +1,6 @@
-ghost use Rattle.std.specs.Prelude.{◌≡◌, ◌+◌, ◌<◌, ◌++◌, ◌∷◌, [], IfOk, OnErr, length, true, None, Some, vec_len, vec_capacity, Option};
+ghost use Rattle.std.specs.Prelude.{◌≡◌, ◌+◌, ◌<◌, ◌++◌, ◌∷◌, [], IfOk, OnErr, IfSome, length, true, None, Some, vec_len, vec_capacity, Option};
 ghost use Rattle.zb_types.specs.Apply.{is_bufferable};
+ghost use Rattle.zb_work.specs.Fitting.{last_number, AimFits};
 ghost use Rattle.zb_client.specs.Calling.{KeepsFirst};
 ghost use Rattle.zb_client.specs.Hearing.{takes_call};
 
@@ -14,7 +15,8 @@ use zb_work::{Aim, Task, put_task};
 /// Moves the first queued call to the kept ones, and tells its number and whether it may be buffered.
 fn keep_first(kept: &mut Vec<Numbered>, queue: &mut VecDeque<Numbered>) -> Option<(u64, bool)>
     requires { vec_len kept.old < vec_capacity kept.old }
-    ensures { KeepsFirst kept.old.items queue.old.items kept.new.items queue.new.items result }
+    ensures keeps { KeepsFirst kept.old.items queue.old.items kept.new.items queue.new.items result }
+    ensures last { IfSome result (λ found. last_number kept.new.items ≡ Some found.0) }
 {
     let call = queue.pop_front()?;
     let number = call.number;

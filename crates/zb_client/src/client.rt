@@ -1,11 +1,12 @@
-ghost use Rattle.std.specs.Prelude.{◌≡◌, ◌+◌, ◌-◌, ◌*◌, ◌<◌, ◌≤◌, ◌^◌, ◌∷◌, ◌++◌, [], length, min, drop, take, Option, None, Some, IfOk, OnOk, OnErr, IfSome, All, true, false, nat_lt, slice_get, vec_len, vec_capacity, option_map};
+ghost use Rattle.std.specs.Prelude.{◌≡◌, List, ◌+◌, ◌-◌, ◌*◌, ◌<◌, ◌≤◌, ◌^◌, ◌∷◌, ◌++◌, [], length, min, drop, take, Option, None, Some, IfOk, OnOk, OnErr, IfSome, All, true, false, nat_lt, slice_get, vec_len, vec_capacity, option_map};
 ghost use Rattle.zb_types.specs.Apply.{is_update};
 ghost use Rattle.zb_basis.specs.Runs.{run_of};
 ghost use Rattle.zb_work.specs.declared.work.Aim.{Aim};
 ghost use Rattle.zb_work.specs.declared.work.Aim.TheVariants.{Finish};
 ghost use Rattle.zb_work.specs.Steps.{new_task, next_task, aim_of};
-ghost use Rattle.zb_work.specs.Fitting.{TaskFits, IsBehind};
-ghost use Rattle.zb_client.specs.Seen.{SeenClient, IsLogOf, HasGiven, kind_of, unready, in_doubt, first_client, settled};
+ghost use Rattle.zb_basis.specs.declared.calls.Numbered.{Numbered};
+ghost use Rattle.zb_work.specs.Fitting.{TaskFits, AimFits, IsBehind};
+ghost use Rattle.zb_client.specs.Seen.{SeenClient, IsLogOf, HasGiven, kind_of, unready, in_doubt, first_client, leaves, settled};
 
 use std::alloc::Global;
 use std::collections::VecDeque;
@@ -41,6 +42,8 @@ pub struct Client {
 
 impl Model for Client {
     ghost use Rattle.std.specs.Prelude.{◌≤◌, is_some, length, option_map, vec_capacity};
+    ghost use Rattle.zb_work.specs.Steps.{aim_of};
+    ghost use Rattle.zb_work.specs.Fitting.{AimFits};
     ghost use Rattle.zb_client.specs.Seen.{SeenClient, IsKept, HasGiven, HasRoom};
 
     ghost Value = { SeenClient };
@@ -64,7 +67,16 @@ impl Model for Client {
     ghost invariant = { λ a. IsKept a.geo.servers a.geo.fragment a.geo.block a.log_id a.log a.kept.items a.queue.items a.task a.flushed a.doubted
         × HasGiven a.log
         × HasRoom (length a.kept.items) (option_map (λ v. v.items) a.spare) (option_map (λ v. vec_capacity v) a.spare)
-        × (1 ≤ a.batch) };
+        × (1 ≤ a.batch)
+        × AimFits a.kept.items a.queue.items (aim_of a.task) };
+}
+
+/// The first so many calls leave.
+fn drop_first(kept: &mut Vec<Numbered>, n: usize)
+    requires { n ≤ length kept.old.items }
+    ensures { kept.new.items ≡ drop n kept.old.items }
+{
+    kept.drain(..n);
 }
 
 /// So many of the kept calls leave, and the next batch or the read is at work.
@@ -73,8 +85,9 @@ pub(crate) fn leave(kept: &mut Vec<Numbered>, batch: &mut u64, task: &mut Option
     ensures kept { kept.new.items ≡ drop n kept.old.items }
     ensures batch { batch.new ≡ min (batch.old + 1) (2 ^ 64 - 1) }
     ensures task { task.new ≡ next_task (aim_of task.old) (nat_lt 0 (length (drop n kept.old.items))) }
+    ensures aim { (queue : List Numbered) → AimFits kept.old.items queue (aim_of task.old) → AimFits kept.new.items queue (aim_of task.new) }
 {
-    kept.drain(..n);
+    drop_first(kept, n);
     *batch = batch.saturating_add(1);
     let next = Task::behind(aim_of(task), !kept.is_empty());
     put_task(task, next);
@@ -105,6 +118,7 @@ impl Client {
     /// stripe, and goes on behind its last flush; its batches are numbered from 1; updates alone are kept, those in doubt
     /// among them. What was found and the blocks that are there are for the work at hand. While a batch is stored or
     /// committed none is in doubt, and its operations are as many as the calls of the next batch.
+    /// The work is for the first queued call, no update, for the last kept call, or for all kept calls.
     pub fn knows(&self)
         ensures log { IsLogOf self.now.servers self.now.fragment self.now.block self.now.log.log self.now.log }
         ensures given { HasGiven self.now.log }
@@ -113,6 +127,7 @@ impl Client {
         ensures updates { All (λ call. is_update call.call ≡ true) self.now.kept }
         ensures in_doubt { self.now.doubted ≤ length self.now.kept }
         ensures work { TaskFits self.now.servers self.now.fragment self.now.block self.now.log self.now.kept self.now.queue self.now.doubted self.now.task }
+        ensures aim { AimFits self.now.kept self.now.queue (aim_of self.now.task) }
     {
         // Names a field, so that what holds of the client's fields is known here.
         let _ = &self.kept;
@@ -171,6 +186,16 @@ impl Client {
         }
     }
 
+    /// The calls in doubt leave, and the next batch or the read is at work.
+    fn leave_doubted(&mut self)
+        ensures { self.new ≡ record (unready (leaves self.old self.old.doubted)) { doubted = 0 } }
+    {
+        let n = self.doubted;
+        leave(&mut self.kept, &mut self.batch, &mut self.task, n);
+        self.doubted = 0;
+        self.spare = None;
+    }
+
     /// Ends the doubt: the batch in doubt is committed, and its calls aren't kept any longer, or it is not, and they
     /// stay kept.
     pub fn settle(&mut self, committed: bool)
@@ -178,8 +203,8 @@ impl Client {
         ensures { self.new ≡ settled self.old committed }
     {
         if committed {
-            let n = self.doubted;
-            leave(&mut self.kept, &mut self.batch, &mut self.task, n);
+            self.leave_doubted();
+            return;
         }
         self.doubted = 0;
         self.spare = None;
@@ -216,6 +241,7 @@ impl Client {
 
     /// Begins to work, with a lookup.
     pub(crate) fn begin(&mut self, aim: Aim)
+        requires { AimFits self.old.kept self.old.queue (Some aim) }
         ensures { self.new ≡ record (unready self.old) { task = new_task aim } }
     {
         put_task(&mut self.task, Task::begin(aim));

@@ -1,7 +1,9 @@
-ghost use Rattle.std.specs.Prelude.{◌≡◌, ◌+◌, ◌≤◌, ◌<◌, ◌^◌, length, true, Option};
+ghost use Rattle.std.specs.Prelude.{◌≡◌, ◌+◌, ◌≤◌, ◌<◌, ◌^◌, length, true, List, Option};
 ghost use Rattle.zb_types.specs.declared.nodes.Cause.TheVariants.{Down};
 ghost use Rattle.zb_basis.specs.Runs.{run_of};
-ghost use Rattle.zb_work.specs.Steps.{step_of};
+ghost use Rattle.zb_basis.specs.declared.calls.Numbered.{Numbered};
+ghost use Rattle.zb_work.specs.Steps.{step_of, aim_of};
+ghost use Rattle.zb_work.specs.Fitting.{AimFits};
 ghost use Rattle.zb_client.specs.Telling.{Heard, looks_anew, gives_up};
 ghost use Rattle.zb_client.specs.Answering.{CanCommit};
 ghost use Rattle.zb_client.specs.Hearing.{tried, hears_outdated, hears_doubt, commits};
@@ -15,7 +17,8 @@ use zb_work::{Task, is_commit, look};
 
 /// The batch was Stale once more.
 fn count_try(task: &mut Option<Task>)
-    ensures { task.new ≡ tried task.old }
+    ensures tried { task.new ≡ tried task.old }
+    ensures aim { (kept queue : List Numbered) → AimFits kept queue (aim_of task.old) → AimFits kept queue (aim_of task.new) }
 {
     if let Some(task) = task {
         task.tries = task.tries.saturating_add(1);

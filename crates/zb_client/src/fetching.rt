@@ -4,9 +4,9 @@ ghost use Rattle.zb_stripe.specs.Reading.{asked, fed, Answers, MayWant};
 ghost use Rattle.zb_log.specs.declared.placed.LogFault.TheVariants.{Worn, NoMemory as OutOfMemory};
 ghost use Rattle.zb_log.specs.Logs.{SeenLog};
 ghost use Rattle.zb_basis.specs.declared.calls.Numbered.{Numbered};
-ghost use Rattle.zb_work.specs.Steps.{step_of};
+ghost use Rattle.zb_work.specs.Steps.{step_of, aim_of};
 ghost use Rattle.zb_work.specs.Blocks.{next_missing, shifted};
-ghost use Rattle.zb_work.specs.Fitting.{Rests, IsFetching, Stands, TaskFits};
+ghost use Rattle.zb_work.specs.Fitting.{Rests, IsFetching, Stands, TaskFits, AimFits};
 ghost use Rattle.zb_client.specs.Seen.{at_step};
 ghost use Rattle.zb_client.specs.Telling.{Heard, looks_anew};
 ghost use Rattle.zb_client.specs.Answering.{CanFetch, brings_bytes};
@@ -68,6 +68,7 @@ fn feed_read(task: &mut Option<Task>, alloc: Global, response: &Response) -> Mem
     ensures fed { FedRead task.old (step_of task.old) response.now task.new result }
     ensures fits { (n f b : ℕ) (log : SeenLog) (kept queue : List Numbered) (doubted : ℕ)
         → TaskFits n f b log kept queue doubted task.old → TaskFits n f b log kept queue doubted task.new }
+    ensures aim { (kept queue : List Numbered) → AimFits kept queue (aim_of task.old) → AimFits kept queue (aim_of task.new) }
 {
     match take_step(task) {
         Step::Fetch {

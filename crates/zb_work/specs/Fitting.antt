@@ -1,7 +1,8 @@
 -- What is true of a client's work, beside the calls that the client keeps and has queued.
-use Rattle.std.specs.Prelude.{◌≡◌, ℕ, ◌+◌, ◌≤◌, true, List, [], ◌∷◌, length, All, Option, Some, is_some}
+use Rattle.std.specs.Prelude.{◌≡◌, ℕ, ◌+◌, ◌<◌, ◌≤◌, true, false, List, [], ◌∷◌, length, All, Option, Some, None, is_some}
 use Rattle.zb_types.specs.declared.ids.Ptr.{Ptr}
 use Rattle.zb_types.specs.declared.tables.Found.{Found}
+use Rattle.zb_types.specs.Apply.{is_update}
 use Rattle.zb_log.specs.Logs.{SeenLog, ForGiven, IsSealed, flush_of, end_with, last_of}
 use Rattle.zb_log.specs.declared.placed.Placed.{Placed}
 use Rattle.zb_stripe.specs.declared.flush.FreshFlush.{FreshFlush}
@@ -19,6 +20,8 @@ use Rattle.zb_basis.specs.Wanting.{wanted_by, wanted_by_read}
 use Rattle.zb_basis.specs.Reading.{is_read}
 use Rattle.zb_basis.specs.Delivering.{IsAbout}
 use Rattle.zb_work.specs.declared.work.Task.{Task}
+use Rattle.zb_work.specs.declared.work.Aim.{Aim}
+use Rattle.zb_work.specs.declared.work.Aim.TheVariants.{Update, Read, Finish}
 use Rattle.zb_work.specs.declared.work.Flushed.{Flushed}
 use Rattle.zb_work.specs.declared.work.Step.{Step}
 use Rattle.zb_work.specs.declared.work.Step.TheVariants.{Lookup, Fetch, Store, Mark, Commit}
@@ -91,6 +94,25 @@ StepFits n f b log kept queue doubted (Commit basis sealed) = IsCommitting kept 
 -- what is true of the work
 abbrev pub TaskFits : ℕ → ℕ → ℕ → SeenLog → List Numbered → List Numbered → ℕ → Option Task → Type 0
 TaskFits n f b log kept queue doubted task = StepFits n f b log kept queue doubted (step_of task)
+
+-- the first queued call is no update
+abbrev pub BeginsRead : List Numbered → Type 0
+BeginsRead [] = ⊥
+BeginsRead (read ∷ rest) = is_update read.call ≡ false
+
+-- the number of the last call
+abbrev pub last_number : List Numbered → Option ℕ
+last_number [] = None
+last_number (call ∷ []) = Some call.number
+last_number (call ∷ (next ∷ rest)) = last_number (next ∷ rest)
+
+-- the calls that the work is for: the first queued one, no update; the last kept one, of this number; or all kept ones,
+-- of which there are some
+abbrev pub AimFits : List Numbered → List Numbered → Option Aim → Type 0
+AimFits kept queue None = Unit {0}
+AimFits kept queue (Some (Update number)) = last_number kept ≡ Some number
+AimFits kept queue (Some Read) = BeginsRead queue
+AimFits kept queue (Some Finish) = 0 < length kept
 
 -- the log goes on at or before the start of the stripe behind the last one of its last flush
 pub record IsBehind (log : SeenLog) (last : Flushed) : Type 0 where

@@ -2,7 +2,7 @@ ghost use Rattle.std.specs.Prelude.{◌≡◌, ℕ, List, Option};
 ghost use Rattle.zb_log.specs.Logs.{SeenLog};
 ghost use Rattle.zb_basis.specs.declared.calls.Numbered.{Numbered};
 ghost use Rattle.zb_work.specs.Steps.{kind_of_step, with_step, step_of, aim_of, new_task, next_task, is_commit, first_members};
-ghost use Rattle.zb_work.specs.Fitting.{StepFits, TaskFits};
+ghost use Rattle.zb_work.specs.Fitting.{StepFits, TaskFits, AimFits};
 
 use std::mem;
 use zb_basis::{Basis, Formed, Sealed};
@@ -121,6 +121,7 @@ pub fn put_step(task: &mut Option<Task>, step: Step)
     // What is true of the step is true of the work.
     ensures fits { (n f b : ℕ) (log : SeenLog) (kept queue : List Numbered) (doubted : ℕ)
         → StepFits n f b log kept queue doubted step → TaskFits n f b log kept queue doubted task.new }
+    ensures aim { (kept queue : List Numbered) → AimFits kept queue (aim_of task.old) → AimFits kept queue (aim_of task.new) }
 {
     match task {
         Some(task) => drop(mem::replace(&mut task.step, step)),
@@ -134,6 +135,7 @@ pub fn take_step(task: &mut Option<Task>) -> Step
     ensures taken { result ≡ step_of task.old }
     ensures fits { (n f b : ℕ) (log : SeenLog) (kept queue : List Numbered) (doubted : ℕ)
         → TaskFits n f b log kept queue doubted task.new }
+    ensures aim { (kept queue : List Numbered) → AimFits kept queue (aim_of task.old) → AimFits kept queue (aim_of task.new) }
 {
     match task {
         Some(task) => mem::replace(&mut task.step, Step::Lookup),
@@ -146,6 +148,7 @@ pub fn look(task: &mut Option<Task>)
     ensures look { task.new ≡ with_step Step.Lookup task.old }
     ensures fits { (n f b : ℕ) (log : SeenLog) (kept queue : List Numbered) (doubted : ℕ)
         → TaskFits n f b log kept queue doubted task.new }
+    ensures aim { (kept queue : List Numbered) → AimFits kept queue (aim_of task.old) → AimFits kept queue (aim_of task.new) }
 {
     put_step(task, Step::Lookup);
 }

@@ -10,6 +10,7 @@ invariant_of-self c =
       c.self.invariant.1,
       c.self.invariant.2,
       c.self.invariant.3,
+      c.feed_read-came.ensures.aim c.self.inside.kept.items c.self.inside.queue.items c.self.invariant.4,
     )
 
 pub returns : goal.returns

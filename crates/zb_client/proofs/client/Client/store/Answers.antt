@@ -7,4 +7,5 @@ invariant_of-self c = (
   c.renew.ensures.given c.self.invariant.1,
   search rules,
   c.self.invariant.3,
+  c.put_step.ensures.aim c.self.inside.kept.items c.self.inside.queue.items c.self.invariant.4,
 )

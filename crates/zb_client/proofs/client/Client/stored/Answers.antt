@@ -18,4 +18,5 @@ invariant_of-self c =
       },
       search rules,
       c.self.invariant.3,
+      c.put_step.ensures.aim c.self.inside.kept.items c.self.inside.queue.items c.self.invariant.4,
     )

@@ -61,20 +61,26 @@ fn give(kind: Kind, n: u32, names: bool, in_doubt: bool) -> Give {
 }
 
 fn fetch(n: u32) -> Give {
-    match n {
-        0 | 1 => Give::Gone,
-        2 => Give::Old,
-        3..=9 => Give::Down,
-        _ => Give::Bytes,
+    if n < 2 {
+        Give::Gone
+    } else if n == 2 {
+        Give::Old
+    } else if n < 10 {
+        Give::Down
+    } else {
+        Give::Bytes
     }
 }
 
 fn store(n: u32) -> Give {
-    match n {
-        0 => Give::NoSlot,
-        1 => Give::Old,
-        2..=4 => Give::Down,
-        _ => Give::Done,
+    if n == 0 {
+        Give::NoSlot
+    } else if n == 1 {
+        Give::Old
+    } else if n < 5 {
+        Give::Down
+    } else {
+        Give::Done
     }
 }
 
@@ -87,12 +93,16 @@ fn mark(n: u32) -> Give {
 }
 
 fn commit(n: u32) -> Give {
-    match n {
-        0..=9 => Give::Stale,
-        10..=14 => Give::Regen,
-        15 | 16 => Give::ManagerDown,
-        17..=20 => Give::Doubt,
-        _ => Give::Committed,
+    if n < 10 {
+        Give::Stale
+    } else if n < 15 {
+        Give::Regen
+    } else if n < 17 {
+        Give::ManagerDown
+    } else if n < 21 {
+        Give::Doubt
+    } else {
+        Give::Committed
     }
 }
 

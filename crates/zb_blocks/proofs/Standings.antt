@@ -6,8 +6,8 @@ use Rattle.zb_types.specs.declared.ids.LogId.{LogId}
 use Rattle.zb_types.specs.declared.ids.Ptr.{Ptr}
 use Rattle.zb_holding.specs.Placing.{share_length}
 use Rattle.zb_holding.specs.Holding.{Maps, share_bytes, StripeHolds, standing, away_at, view_of}
-use Rattle.zb_stripe.specs.declared.read.Got.{Got}
-use Rattle.zb_stripe.specs.declared.read.Got.TheVariants as got
+use Rattle.zb_stripe.specs.declared.read_plan.Got.{Got}
+use Rattle.zb_stripe.specs.declared.read_plan.Got.TheVariants as got
 use Rattle.zb_stripe_laws.proofs.Mended.{holds_away}
 use Rattle.zb_plain.specs.Standing.{maps_of}
 use Rattle.zb_blocks.specs.Blocks.{SeenBlocks, blocks_log, end_of, contents_of, IsStored, Extends, HaveSameContents, StripesHold}

@@ -10,8 +10,8 @@ use Rattle.zb_types.specs.declared.lines.Said.{Said}
 use Rattle.zb_types.specs.declared.lines.Said.TheVariants as said
 use Rattle.zb_types.specs.declared.requests.Response.{Response}
 use Rattle.zb_stripe.specs.Reading.{Reading}
-use Rattle.zb_stripe.specs.declared.write.Fed.{Fed}
-use Rattle.zb_stripe.specs.declared.write.Fed.TheVariants as fed
+use Rattle.zb_stripe.specs.declared.write_plan.Fed.{Fed}
+use Rattle.zb_stripe.specs.declared.write_plan.Fed.TheVariants as fed
 use Rattle.zb_stripe.specs.Feeding.{fed_by}
 use Rattle.zb_basis.specs.declared.basis.Basis.{Basis}
 use Rattle.zb_basis.specs.declared.basis.Formed.{Formed}

@@ -8,8 +8,8 @@ use Rattle.zb_types.specs.declared.lines.Said.TheVariants as said
 use Rattle.zb_types.specs.declared.requests.Response.{Response}
 use Rattle.zb_types.specs.declared.requests.Response.TheVariants as told
 use Rattle.zb_types.specs.declared.requests.StoreFault.TheVariants as fault
-use Rattle.zb_stripe.specs.declared.read.Got.{Got}
-use Rattle.zb_stripe.specs.declared.read.Got.TheVariants as got
+use Rattle.zb_stripe.specs.declared.read_plan.Got.{Got}
+use Rattle.zb_stripe.specs.declared.read_plan.Got.TheVariants as got
 use Rattle.zb_stripe.specs.declared.progress.Phase.{Phase}
 use Rattle.zb_stripe.specs.declared.progress.Phase.TheVariants.{Direct, Lengths, Others}
 use Rattle.zb_stripe.specs.Reading.{Reading, fed, fed_in, own_gone, two_lost, names_two, is_lost, ended_by, MayWant}

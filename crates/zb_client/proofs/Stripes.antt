@@ -5,7 +5,7 @@ use Rattle.zb_types.specs.declared.ids.ServerId.{ServerId}
 use Rattle.zb_types.specs.declared.requests.Request.{Request}
 use Rattle.zb_types.specs.declared.requests.Response.{Response}
 use Rattle.zb_types.specs.declared.requests.Response.TheVariants as told
-use Rattle.zb_stripe.specs.declared.write.Fed.TheVariants as fed
+use Rattle.zb_stripe.specs.declared.write_plan.Fed.TheVariants as fed
 use Rattle.zb_stripe.specs.Feeding.{fed_by, left_after}
 use Rattle.zb_log.specs.Placing.{last_stripe}
 use Rattle.zb_log.specs.Logs.{SeenLog, AreGiven}

@@ -17,10 +17,10 @@ use Rattle.zb_types.specs.declared.tables.MarkFault.{MarkFault}
 use Rattle.zb_types.specs.declared.tables.MarkFault.TheVariants as mark_fault
 use Rattle.zb_types.specs.Apply.{is_update, is_bufferable}
 use Rattle.zb_types.specs.Limits.{most_kept}
-use Rattle.zb_stripe.specs.declared.read.Got.{Got}
-use Rattle.zb_stripe.specs.declared.read.Got.TheVariants as got
-use Rattle.zb_stripe.specs.declared.write.Fed.{Fed}
-use Rattle.zb_stripe.specs.declared.write.Fed.TheVariants as fed
+use Rattle.zb_stripe.specs.declared.read_plan.Got.{Got}
+use Rattle.zb_stripe.specs.declared.read_plan.Got.TheVariants as got
+use Rattle.zb_stripe.specs.declared.write_plan.Fed.{Fed}
+use Rattle.zb_stripe.specs.declared.write_plan.Fed.TheVariants as fed
 use Rattle.zb_stripe.specs.Reading.{Reading, start, fed as read_fed}
 use Rattle.zb_stripe.specs.Feeding.{fed_by, left_after}
 use Rattle.zb_log.specs.Logs.{SeenLog, gone_on}

@@ -16,7 +16,7 @@ use Rattle.zb_index.specs.Seen.{spot_of}
 use Rattle.zb_slots.specs.Slots.{slots_in}
 use Rattle.zb_slots.specs.declared.read_fault.ReadFault.{ReadFault}
 use Rattle.zb_slots.specs.declared.read_fault.ReadFault.TheVariants as reading
-use Rattle.zb_slots.specs.declared.parity.ParityRange.{ParityRange}
+use Rattle.zb_slots.specs.declared.range.ParityRange.{ParityRange}
 use Rattle.zb_fragstore.specs.Reading.{or_unread}
 use Rattle.zb_fragstore.specs.Seen.{SeenStore}
 use Rattle.zb_fragstore.specs.Seen.{is_share}

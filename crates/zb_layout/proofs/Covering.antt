@@ -6,7 +6,7 @@ use Rattle.std.proofs.lemmas.Bool.{cases_lt}
 use Rattle.std.proofs.lemmas.List.{append-nil}
 use Rattle.std.proofs.lemmas.List.FromFn.{get_or-map-range_with_len}
 use Rattle.zb_holding.proofs.Shares.{share_range, range_join}
-use Rattle.zb_layout.specs.declared.ranges.Span.{Span}
+use Rattle.zb_layout.specs.declared.span_list.Span.{Span}
 use Rattle.zb_layout.specs.Ranges.{from_in, to_in, span_of, span_count, spans_of, bytes_in, Covers, LiesWithin}
 use Rattle.zb_layout.proofs.Reaching.{count_some, length-spans_of, counted, span_begins, span_reaches, index_below}
 

@@ -2,7 +2,7 @@
 use Rattle.std.specs.Prelude.{◌≡◌, ℕ, ◌+◌, ◌-◌, ◌*◌, ◌/◌, ◌%◌, ◌<◌, ◌≤◌, min, max, List, map, take, drop, if◌then◌else◌, ◌==◌}
 use Rattle.std.specs.List.{range_with_len, flat_map}
 use Rattle.zb_holding.specs.Placing.{share_of}
-use Rattle.zb_layout.specs.declared.ranges.Span.{Span}
+use Rattle.zb_layout.specs.declared.span_list.Span.{Span}
 
 -- where the bytes from an offset on begin that lie in share k
 abbrev pub from_in : ℕ → ℕ → ℕ → ℕ

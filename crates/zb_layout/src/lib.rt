@@ -1,13 +1,13 @@
 //! Where the bytes of a stripe lie: the server of each fragment, the length of each share, and the ranges of a pointer.
 #![tactic(auto)]
 
-mod ranges;
+mod span_list;
 
 ghost use Rattle.std.specs.Prelude.{◌≡◌, ◌+◌, ◌-◌, ◌*◌, ◌≤◌, All};
 ghost use Rattle.zb_holding.specs.Placing.{share_length, server_of};
 ghost use Rattle.zb_layout.specs.Ranges.{spans_of, Covers, LiesWithin};
 
-pub use ranges::{Span, Spans};
+pub use span_list::{Span, Spans};
 use zb_types::{FragId, Geometry, Ptr, ServerId};
 
 /// The server that a fragment is placed on: one further for each log, stripe and index.

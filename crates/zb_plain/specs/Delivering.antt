@@ -6,8 +6,8 @@ use Rattle.zb_holding.specs.Holding.{Maps}
 use Rattle.zb_types.specs.declared.requests.Response.{Response}
 use Rattle.zb_types.specs.declared.requests.Response.TheVariants as told
 use Rattle.zb_holding.specs.Carrying.{carried_all}
-use Rattle.zb_stripe.specs.declared.read.Got.{Got}
-use Rattle.zb_stripe.specs.declared.read.Got.TheVariants as more
+use Rattle.zb_stripe.specs.declared.read_plan.Got.{Got}
+use Rattle.zb_stripe.specs.declared.read_plan.Got.TheVariants as more
 use Rattle.zb_stripe.specs.Reading.{Reading, asked, fed, answered, is_more}
 use Rattle.zb_stripe_laws.specs.ReadAtWork.{AnswersFrom, AllAnswer}
 use Rattle.zb_types.specs.declared.geometry.Geometry.{Geometry}

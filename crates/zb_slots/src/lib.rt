@@ -9,8 +9,8 @@ mod header_cell;
 mod header_list;
 mod laws;
 mod number;
-mod parity;
 mod place;
+mod range;
 mod read_fault;
 mod same;
 mod share;
@@ -26,8 +26,8 @@ pub use laws::{
     unheld_names_stand_nowhere,
 };
 pub use number::{u32_at, u64_at};
-pub use parity::{ParityRange, parity_range};
 pub use place::place_of;
+pub use range::{ParityRange, parity_range};
 pub use read_fault::ReadFault;
 pub use same::stands_at;
 pub use share::share_bytes;

@@ -10,8 +10,8 @@ use Rattle.zb_types.specs.declared.requests.Response.TheVariants as told
 use Rattle.zb_types.specs.declared.requests.StoreFault.TheVariants as fault
 use Rattle.zb_holding.specs.Exclusive.{xored}
 use Rattle.zb_holding.proofs.Placings.{turn_once}
-use Rattle.zb_stripe.specs.declared.read.Got.{Got}
-use Rattle.zb_stripe.specs.declared.read.Got.TheVariants as got
+use Rattle.zb_stripe.specs.declared.read_plan.Got.{Got}
+use Rattle.zb_stripe.specs.declared.read_plan.Got.TheVariants as got
 use Rattle.zb_stripe.specs.declared.progress.Phase.{Phase}
 use Rattle.zb_stripe.specs.declared.progress.Phase.TheVariants.{Direct, Lengths, Others}
 use Rattle.zb_stripe.specs.Reading.{Reading, pos_of, end_of, index_of, place_of, server_at, is_lost, with_phase, entered, own_lost, sought, names_two, two_lost, gained, gained_by, own_gone, fed_in, PhaseIsSound, AnswersIn, AnswersRetrieve, Answers, CanRead, frag_at, len_of, asked_in, asked, lacks_bytes, is_gone, IsNotThere, DidNotAnswer, IsLost, NamesLost, OwnIsLost}

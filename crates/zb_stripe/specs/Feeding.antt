@@ -5,8 +5,8 @@ use Rattle.zb_types.specs.declared.requests.Request.{Request}
 use Rattle.zb_types.specs.declared.requests.Response.{Response}
 use Rattle.zb_types.specs.declared.requests.Response.TheVariants as told
 use Rattle.zb_types.specs.declared.requests.StoreFault.TheVariants as fault
-use Rattle.zb_stripe.specs.declared.write.Fed.{Fed}
-use Rattle.zb_stripe.specs.declared.write.Fed.TheVariants as fed
+use Rattle.zb_stripe.specs.declared.write_plan.Fed.{Fed}
+use Rattle.zb_stripe.specs.declared.write_plan.Fed.TheVariants as fed
 
 -- what is carried out comes to, where these requests are left
 abbrev pub done_by : List (ServerId × Request) → Fed

@@ -4,12 +4,12 @@
 mod flush;
 mod parity;
 mod progress;
-mod read;
+mod read_plan;
 mod source;
-mod write;
+mod write_plan;
 
 pub use flush::{Flush, Fresh, FreshFlush, FreshList, Part, PartList};
 pub use parity::grow_parity;
 pub use progress::Phase;
-pub use read::{Got, ReadPlan};
-pub use write::{Fed, WritePlan};
+pub use read_plan::{Got, ReadPlan};
+pub use write_plan::{Fed, WritePlan};

@@ -22,8 +22,8 @@ use Rattle.zb_holding.specs.Carrying.{found}
 use Rattle.zb_holding.proofs.Exclusives.{xor_more, without, xor_without, length-xored, get_or-xored}
 use Rattle.zb_stripe_laws.proofs.Away.{away_once}
 use Rattle.zb_stripe_laws.proofs.Left.{held_remains}
-use Rattle.zb_stripe.specs.declared.read.Got.{Got}
-use Rattle.zb_stripe.specs.declared.read.Got.TheVariants as got
+use Rattle.zb_stripe.specs.declared.read_plan.Got.{Got}
+use Rattle.zb_stripe.specs.declared.read_plan.Got.TheVariants as got
 use Rattle.zb_stripe.specs.declared.progress.Phase.{Phase}
 use Rattle.zb_stripe.specs.declared.progress.Phase.TheVariants.{Direct, Lengths, Others}
 use Rattle.zb_holding.specs.Exclusive.{xored}

@@ -14,8 +14,8 @@ use Rattle.zb_holding.specs.Fragments.{Fragment, share_fragment, parity_fragment
 use Rattle.zb_holding.specs.Placing.{share_of, frag_id, server_of}
 use Rattle.zb_holding.specs.Holding.{Maps, Begins, IsGoneOrReaches, StripeHolds, StripeRemains, standing, is_away, away_at, view_of}
 use Rattle.zb_holding.specs.Carrying.{found, carried}
-use Rattle.zb_stripe.specs.declared.read.Got.{Got}
-use Rattle.zb_stripe.specs.declared.read.Got.TheVariants as got
+use Rattle.zb_stripe.specs.declared.read_plan.Got.{Got}
+use Rattle.zb_stripe.specs.declared.read_plan.Got.TheVariants as got
 use Rattle.zb_stripe.specs.declared.progress.Phase.{Phase}
 use Rattle.zb_stripe.specs.declared.progress.Phase.TheVariants.{Direct, Lengths, Others}
 use Rattle.zb_stripe.specs.Reading.{Reading, names_two, asked, fed, blocked_in, first_lost, is_gone, DidNotAnswer, IsLost}

@@ -12,8 +12,8 @@ use Rattle.zb_holding.specs.Exclusive.{xor_at}
 use Rattle.zb_holding.specs.Holding.{Maps, view_of, StripeRemains, covered, is_away, standing, away_at}
 use Rattle.zb_holding.specs.Carrying.{found}
 use Rattle.zb_stripe_laws.specs.PartAtWork.{IsOfOtherStripe}
-use Rattle.zb_stripe.specs.declared.read.Got.{Got}
-use Rattle.zb_stripe.specs.declared.read.Got.TheVariants as got
+use Rattle.zb_stripe.specs.declared.read_plan.Got.{Got}
+use Rattle.zb_stripe.specs.declared.read_plan.Got.TheVariants as got
 use Rattle.zb_stripe.specs.declared.progress.Phase.{Phase}
 use Rattle.zb_stripe.specs.declared.progress.Phase.TheVariants.{Direct, Lengths, Others}
 use Rattle.zb_stripe.specs.Reading.{Reading, server_at, is_lost, asked, blocked_in, fed, is_more, IsNotThere, DidNotAnswer, NamesLost}

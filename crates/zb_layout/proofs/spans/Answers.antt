@@ -1,5 +1,5 @@
 use Rattle.std.proofs.Common.{List, length, get_or, sym, ap, subst, arith}
-use Rattle.zb_layout.specs.declared.ranges.Span.{Span}
+use Rattle.zb_layout.specs.declared.span_list.Span.{Span}
 use Rattle.zb_layout.specs.Ranges.{Covers, LiesWithin}
 use Rattle.zb_layout.proofs.Covering.{covers, lies_within}
 use Rattle.zb_layout.proofs.spans.Goals as goal

@@ -5,7 +5,7 @@ use Rattle.zb_types.specs.declared.ids.Ptr.{Ptr}
 use Rattle.zb_holding.specs.Placing.{frag_id, server_of}
 use Rattle.zb_holding.specs.Holding.{is_away}
 use Rattle.std.specs.Prelude.{IfSome, IsSome}
-use Rattle.zb_stripe.specs.declared.read.Got.TheVariants as got
+use Rattle.zb_stripe.specs.declared.read_plan.Got.TheVariants as got
 use Rattle.zb_stripe.specs.Reading.{Reading, answered, first_lost}
 use Rattle.zb_stripe_laws.specs.ReadAtWork.{AllAnswer, IsOutOf}
 use Rattle.zb_stripe_laws.proofs.Gathering.{starts, gathers, comes_to_end}

@@ -6,7 +6,7 @@ use Rattle.zb_types.specs.declared.ids.Ptr.{Ptr}
 use Rattle.zb_types.specs.declared.requests.Response.{Response}
 use Rattle.zb_holding.specs.Holding.{Maps, away_at, StripeRemains, view_of}
 use Rattle.zb_holding.specs.Carrying.{carried}
-use Rattle.zb_stripe.specs.declared.read.Got.{Got}
+use Rattle.zb_stripe.specs.declared.read_plan.Got.{Got}
 use Rattle.zb_stripe.specs.declared.progress.Phase.{Phase}
 use Rattle.zb_stripe.specs.declared.progress.Phase.TheVariants.{Direct, Lengths, Others}
 use Rattle.zb_stripe.specs.Reading.{Reading, pos_of, end_of, index_of, is_lost, entered, first_lost, start, fed}

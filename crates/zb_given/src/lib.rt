@@ -1,0 +1,2 @@
+//! What a world was given.
+#![tactic(auto)]

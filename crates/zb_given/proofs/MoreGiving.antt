@@ -32,7 +32,7 @@ module _ (given : Given) (line : Line) (at : ℕ) where
   point_kept (i ∷ items) x (suc j) lt = point_kept items x j (omega (arith, lt))
 
   -- a longer script has the same line at the same place
-  same_longer : (s : Subject) (n j place : ℕ) (l other : Line) → asked A s n ≡ Some (j, l) → asked (script_of (with_item given line at)) s n ≡ Some (place, other) → (j ≡ place) × (l ≡ other)
+  pub same_longer : (s : Subject) (n j place : ℕ) (l other : Line) → asked A s n ≡ Some (j, l) → asked (script_of (with_item given line at)) s n ≡ Some (place, other) → (j ≡ place) × (l ≡ other)
   same_longer s n j place l other a b =
       let p = splits 0 s n A j l a in
       let q = splits 0 s n (A ++ line ∷ []) place other (subst (λ (x : List Line). asked x s n ≡ Some (place, other)) one_more b) in
@@ -72,7 +72,7 @@ more_given given lines line at le g =
     (one_given given line at lines le g, same_history (script_of given) (script_of (with_item given line at)) (more_extend given line at) lines (all_asked (clock_of_given given) (script_of given) [] lines g.fits))
 
 -- a finish more
-finish_carry : (given : Given) (lines : List Outcome) (at : ℕ) → Carries (script_of given) (script_of given) (clock_of_given given) (clock_of_given (with_finish given at)) lines
+pub finish_carry : (given : Given) (lines : List Outcome) (at : ℕ) → Carries (script_of given) (script_of given) (clock_of_given given) (clock_of_given (with_finish given at)) lines
 finish_carry given lines at = record {
   extends = λ s. ([], sym (append-nil (map with_plus (about s (script_of given)))));
   begun = λ s n j place l other a b front rest split h. subst (λ k. nat_le (point given.items k) (length front) ≡ true) (pair_of (asked (script_of given) s n) j place l other a b).0 h;

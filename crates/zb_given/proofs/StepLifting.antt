@@ -21,7 +21,7 @@ module _ (A B : List Line) (same : without_steps A ≡ without_steps B) where
   steps_extend s = ([], ap (map with_plus) (sym (about_steps s B) ∙ ap (about s) (sym same) ∙ about_steps s A) ∙ sym (append-nil (map with_plus (about s A))))
 
   -- both have the same before this line, but for steps
-  same_front : (s : Subject) (n j place : ℕ) (l line : Line) → asked A s n ≡ Some (j, l) → asked B s n ≡ Some (place, line) → (without_steps (take j A) ≡ without_steps (take place B)) × (l ≡ line)
+  pub same_front : (s : Subject) (n j place : ℕ) (l line : Line) → asked A s n ≡ Some (j, l) → asked B s n ≡ Some (place, line) → (without_steps (take j A) ≡ without_steps (take place B)) × (l ≡ line)
   same_front s n j place l line a b =
       let p = splits 0 s n A j l a in
       let q = splits 0 s n B place line b in

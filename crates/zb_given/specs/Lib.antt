@@ -8,3 +8,5 @@ pub mod Loops
 pub mod Stays
 pub mod Lifts
 pub mod Completing
+pub mod Reasoning
+pub mod Worked

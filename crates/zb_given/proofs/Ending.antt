@@ -12,16 +12,17 @@ use Rattle.zb_types.specs.declared.lines.Line.{Line}
 use Rattle.zb_types.specs.declared.lines.Line.TheVariants.{Call as CallLine, Job as JobLine, Steps, StepTo, Event as EventLine}
 use Rattle.zb_types.specs.declared.lines.Job.TheVariants.{Clean, Rebuild}
 use Rattle.zb_types.specs.declared.lines.Outcome.{Outcome}
-use Rattle.zb_claims.specs.Points.{Subject, subject_asked, subject_in, has_plus, has_told, is_met, all_met, is_begun}
+use Rattle.zb_claims.specs.Points.{Subject, calls, same_subject, is_about, asked_of, subject_asked, subject_in, has_plus, has_told, is_met, all_met, is_begun}
 use Rattle.zb_claims.specs.Runs.{has_ended, all_ended}
 use Rattle.zb_laws.proofs.Tests.{both, first_true, last_true, first_false, last_false}
 use Rattle.zb_headline.specs.Need.{need_of, space_needed}
 use Rattle.zb_headline.specs.Complete.{takes_away, is_beside}
 use Rattle.zb_given.specs.Given.{Item, Given, with_item, script_of}
 use Rattle.zb_given.specs.Gives.{is_item, without_steps, with_plus, are_begun}
-use Rattle.zb_given.specs.Ends.{all_told, are_in_turn, AllTold, AllEnded, TurnsOn, TurnsStay}
-use Rattle.zb_given.specs.Lifts.{LiftsEnded}
+use Rattle.zb_given.specs.Ends.{all_told, are_in_turn, is_call, OfClients, AllTold, AllEnded, OnlyCalls, TurnsOn, TurnsStay}
+use Rattle.zb_given.specs.Lifts.{LiftsEnded, LiftsLast}
 use Rattle.zb_given.specs.Completing.{is_job, GivesInTurn, LiftsComplete}
+use Rattle.zb_given.proofs.Subjects.{one_subject}
 use Rattle.zb_given.proofs.StepLines.{step_asks}
 use Rattle.zb_given.proofs.Plus.{take_plus}
 use Rattle.zb_given.proofs.AllMet.{all_met_steps, all_met_plus, each_met, met_each}
@@ -43,6 +44,32 @@ all_ended_law given lines = (
 
 pub lifts_ended : LiftsEnded
 lifts_ended script given lines is = ap (all_ended lines []) is ∙ all_met_plus (has_ended lines) [] (without_steps script) ∙ sym (all_met_steps subject_asked (has_ended lines) step_asks [] script)
+
+pub lifts_last : LiftsLast
+lifts_last script given lines gives each = sym (lifts_ended script given lines gives.items) ∙ (all_ended_law given lines).1 each
+
+-- of calls alone there is nothing else
+calls_alone : (s : Subject) (items : List Item) → AllByRecursion (λ item. is_call item.line ≡ true) items → ((client : ℕ) → s ≡ calls client → ⊥) → asked_of s (map (λ (item : Item). item.line) items) ≡ 0
+calls_alone s [] all other = refl
+calls_alone s (item ∷ items) all other = rw (not_about item.line all.0) (calls_alone s items all.1 other)
+  where
+    no_call : (client : ℕ) (b : Bool) → same_subject s (calls client) ≡ b → b ≡ false
+    no_call client true e = absurd (other client (one_subject s (calls client) e))
+    no_call client false e = refl
+
+    not_about : (line : Line) → is_call line ≡ true → is_about s line ≡ false
+    not_about (CallLine plus client call) h = no_call client (same_subject s (calls client)) refl
+    not_about (JobLine plus job) h = absurd cc
+    not_about (Steps actor count) h = absurd cc
+    not_about (StepTo actor kind) h = absurd cc
+    not_about (EventLine event) h = absurd cc
+
+by_clients : (given : Given) (f : Subject → ℕ → Bool) → AllByRecursion (λ item. is_call item.line ≡ true) given.items → OfClients (λ s. (n : ℕ) → 1 ≤ n → n ≤ asked_of s (script_of given) → f s n ≡ true)
+by_clients given f all each (calls client) n low high = each client n low high
+by_clients given f all each s n low high = absurd (omega (arith, low, high, calls_alone s given.items all (λ client e. absurd cc)))
+
+pub only_calls : OnlyCalls
+only_calls given lines all = (by_clients given (has_told lines) all, by_clients given (has_ended lines) all)
 
 -- In turn.
 

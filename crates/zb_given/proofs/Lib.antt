@@ -18,6 +18,6 @@ pub mod Giving
 pub mod AtOnce
 pub mod Looping
 pub mod AheadLifting
-pub mod Worked
+pub mod Rows
 pub mod LoopRun
 pub mod ReasonLifting

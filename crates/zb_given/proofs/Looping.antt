@@ -1,6 +1,6 @@
 -- A program's loop keeps what it keeps.
 use Rattle.std.proofs.Common.{◌≡◌, ℕ, suc, ◌+◌, ◌<◌, ◌≤◌, Bool, true, false, cond, ◌||◌, eqb, List, [], ◌∷◌, ◌++◌, length, take, Option, Some, None, refl, sym, ap, subst, ◌∙◌, arith, inl, inr}
-use Rattle.std.specs.Prelude.{map, ◌⊎◌}
+use Rattle.std.specs.Prelude.{map, ◌≢◌, ◌⊎◌}
 use Rattle.std.specs.List.{list_any, AllByRecursion}
 use Rattle.std.proofs.lemmas.List.{append-nil}
 use Rattle.std.proofs.lemmas.List.Elements.{filter-append}
@@ -13,14 +13,14 @@ use Rattle.zb_types.specs.declared.lines.Said.TheVariants.{Reply as Replied}
 use Rattle.zb_types.specs.declared.lines.Outcome.{Outcome}
 use Rattle.zb_types.specs.declared.lines.Outcome.TheVariants.{Call as OfCall}
 use Rattle.zb_types.specs.Apply.{is_update, reply_to}
-use Rattle.zb_claims.specs.Points.{Subject, calls, is_about, asked_of, call_of, is_of_client, has_told, has_plus, subject_asked, subject_in, is_met, is_begun, tree_at}
+use Rattle.zb_claims.specs.Points.{Subject, calls, subject_of, is_about, asked_of, call_of, is_of_client, has_told, has_plus, subject_asked, subject_in, is_met, is_begun, tree_at}
 use Rattle.zb_laws.proofs.Tests.{equal, equals, first_false, last_false}
 use Rattle.zb_given.specs.Given.{Given, with_item, script_of, calls_of, FitGiven}
 use Rattle.zb_given.specs.Calls.{LookedUp}
 use Rattle.zb_given.specs.Gives.{is_item, without_steps, with_plus, Gives}
 use Rattle.zb_given.specs.Telling.{is_number, seen_by, IsOfLookup, AreOfLookups, IsOfNow, LooksNow}
-use Rattle.zb_given.specs.Loops.{IsFirst, GoesTo, LooksFirst, GoesPastPlus, GoesPast, GoesPastSteps, StepsOwn, StepsOther, StepsPast, Finishes}
-use Rattle.zb_given.proofs.Subjects.{asks_about}
+use Rattle.zb_given.specs.Loops.{IsFirst, GoesTo, LooksFirst, GoesPastPlus, GoesPast, GoesPastSteps, StepsOwn, StepsOther, OtherClients, StepsPast, Finishes}
+use Rattle.zb_given.proofs.Subjects.{asks_about, one_subject}
 use Rattle.zb_given.proofs.Parts.{asks_call}
 use Rattle.zb_given.proofs.Plus.{asked_of_plus}
 use Rattle.zb_given.proofs.StepLines.{asked_of_steps, step_waits}
@@ -40,9 +40,10 @@ pub goes_to : GoesTo
 goes_to script given lines line is none g past = record { gives = gives_row script given lines line is none g past.begun past.gives; begun = past.begun }
 
 pub looks_first : LooksFirst
-looks_first given lines client at call earlier read is = λ same.
-    let a = asks_call (script_of given) client read.number earlier is in
-    let below = asked_pos (script_of given) (calls client) read.number _ (CallLine a.plus client earlier) a.is in
+looks_first given lines client at call None is = tt
+looks_first given lines client at call (Some read) is = λ same.
+    let a = asks_call (script_of given) client read.number is.0 is.1.is_open.is in
+    let below = asked_pos (script_of given) (calls client) read.number _ (CallLine a.plus client is.0) a.is in
     absurd (omega (arith, same, below.1, below.2, counts_own given client, ap length (next_is_fresh given client call at).own, one (calls_of given client)))
   where
     one : (xs : List Call) → length (xs ++ call ∷ []) ≡ suc (length xs)
@@ -177,3 +178,24 @@ steps_own script line given lines client old new more g tells looks at = (
   },
   looks_on given lines more client old new looks tells.looks,
 )
+
+-- a line of one client is none of another
+not_both : (c other : ℕ) (x : Outcome) → other ≢ c → is_of_client other x ≡ true → is_of_client c x ≡ false
+not_both c other x ne own = by_test (is_of_client c x) refl
+  where
+    same : Some (calls other) ≡ Some (calls c) → other ≡ c
+    same e = cc
+
+    by_test : (b : Bool) → is_of_client c x ≡ b → is_of_client c x ≡ false
+    by_test true e =
+        let one : calls other ≡ subject_of x = one_subject (calls other) (subject_of x) own in
+        let two : calls c ≡ subject_of x = one_subject (calls c) (subject_of x) e in
+        absurd (ne (same (ap Some (one ∙ sym two))))
+    by_test false e = e
+
+none_of : (c other : ℕ) (more : List Outcome) → other ≢ c → AllByRecursion (λ x. is_of_client other x ≡ true) more → list_any (is_of_client c) more ≡ false
+none_of c other [] ne own = refl
+none_of c other (x ∷ more) ne own = ap (λ (b : Bool). b || list_any (is_of_client c) more) (not_both c other x ne own.0) ∙ none_of c other more ne own.1
+
+pub other_clients : OtherClients
+other_clients plus client other call more ne own c about = none_of c other more (subst (λ (k : ℕ). other ≢ k) (sym (equal c client about)) ne) own

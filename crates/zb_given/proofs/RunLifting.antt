@@ -16,9 +16,11 @@ use Rattle.zb_types.specs.Apply.{is_update, reply_to}
 use Rattle.zb_claims.specs.Points.{Subject, calls, crashes, is_about, asked, asked_of, is_begun, tree_at}
 use Rattle.zb_claims.specs.Fits.{clock_of_run, FitsBy, FitLines}
 use Rattle.zb_laws.proofs.Tests.{first_true, last_true, or_cases}
+use Rattle.zb_laws.proofs.ReadPoints.{tells_legal}
+use Rattle.zb_laws.proofs.Order.{in_order}
 use Rattle.zb_given.specs.Given.{Item, Given, script_of, point, clock_of_given, FitGiven}
 use Rattle.zb_given.specs.Gives.{without_steps, with_plus, about, are_begun, are_over, IsNow, IsAtOnce, AreAtOnce, GivesBySubject}
-use Rattle.zb_given.specs.Lifts.{SameHistory, LiftsRun, LiftsThreads, BySubject}
+use Rattle.zb_given.specs.Lifts.{SameHistory, TellsLegalGiven, LiftsRun, LiftsThreads, BySubject}
 use Rattle.zb_given.proofs.Small.{on, nat_le_is}
 use Rattle.zb_given.proofs.Parts.{within}
 use Rattle.zb_given.proofs.Plus.{plus_about, asked_of_plus, take_plus, same_place}
@@ -46,6 +48,11 @@ lifts_threads script given lines gives g = (
   carry (script_of given) script (clock_of_given given) (clock_of_run false script) lines (threads_carry script given lines gives) g.fits,
   history_back (script_of given) script lines (same_history (script_of given) script gives lines (all_asked (clock_of_given given) (script_of given) [] lines g.fits)),
 )
+
+pub tells_legal_given : TellsLegalGiven
+tells_legal_given given lines g =
+    let fits : FitLines false (script_of given) lines = (lifts_threads (script_of given) given lines (λ s. ([], sym (append-nil (map with_plus (about s (script_of given)))))) g).0 in
+    (tells_legal false (script_of given) lines fits, in_order false (script_of given) lines fits)
 
 -- In the script's order.
 

@@ -1,5 +1,5 @@
 -- What stays of calls that were given.
-use Rattle.std.proofs.Common.{◌≡◌, ℕ, zero, suc, ◌+◌, ◌<◌, ◌≤◌, Bool, true, false, not, cond, ◌&&◌, ◌||◌, eqb, List, [], ◌∷◌, ◌++◌, length, take, drop, Option, Some, refl, sym, ap, subst, ◌∙◌, append_assoc, arith, inl, inr}
+use Rattle.std.proofs.Common.{◌≡◌, ℕ, zero, suc, ◌+◌, ◌<◌, ◌≤◌, Bool, true, false, not, cond, ◌&&◌, ◌||◌, eqb, List, [], ◌∷◌, ◌++◌, length, take, drop, Option, Some, None, refl, sym, ap, subst, ◌∙◌, append_assoc, arith, inl, inr}
 use Rattle.std.specs.Prelude.{map, filter, nat_le, nat_lt, ◌-◌, slice_get, ◌⊎◌}
 use Rattle.std.specs.List.{list_any, flat_map, AllByRecursion}
 use Rattle.std.proofs.lemmas.Bool.Decides.{nat_tests}
@@ -22,7 +22,7 @@ use Rattle.zb_laws.proofs.Tests.{equal, equals, both, first_true, last_true, or_
 use Rattle.zb_given.specs.Given.{Item, Given, with_item, script_of, point, place_in, place_of, point_of, call_by, calls_of, clock_of_given, FitGiven}
 use Rattle.zb_given.specs.Calls.{IsOpen, LookedUp, IsLookedUp, tree_seen}
 use Rattle.zb_given.specs.Gives.{with_plus, about}
-use Rattle.zb_given.specs.Stays.{NamesOwn, CountsOwn, IsFresh, NextIsFresh, NoneIsAhead, CallStays, OpenStays, OpenOver, EndedOver, FullOver, LooksUp, LookupStays, LookupOver, SeenStays, SeenOver}
+use Rattle.zb_given.specs.Stays.{NamesOwn, CountsOwn, IsFresh, NextIsFresh, NoneIsAhead, CallStays, OpenStays, OpenOver, EndedOver, FullOver, LooksUp, LookupStays, LookupOver, AtWorkStays, AtWorkOver, SeenStays, SeenOver}
 use Rattle.zb_given.proofs.Small.{get_last, all_front}
 use Rattle.zb_given.proofs.Asking.{line_call, call_of_about, asked_more}
 use Rattle.zb_given.proofs.Parts.{asks_call, splits, within, one_part}
@@ -91,8 +91,8 @@ own_line : (client : ℕ) (call : Call) → call_by client (CallLine true client
 own_line client call = ap (λ (b : Bool). cond b (call ∷ []) []) (equals client)
 
 module _ (given : Given) (client : ℕ) (call : Call) (at : ℕ) where
-  abbrev line : Line
-  line = CallLine true client call
+  abbrev given_line : Line
+  given_line = CallLine true client call
 
   abbrev x : Item
   x = record { line = CallLine true client call; at = at }
@@ -113,9 +113,9 @@ module _ (given : Given) (client : ℕ) (call : Call) (at : ℕ) where
   fresh_place =
       let a = asks_call (script_of longer) client (suc n) call fresh_is in
       let p = splits 0 (calls client) (suc n) (script_of longer) (place_of longer client (suc n)) (CallLine a.plus client call) a.is in
-      let whole : p.front ++ CallLine a.plus client call ∷ p.rest ≡ script_of given ++ line ∷ [] = sym p.split ∙ one_more given line at in
+      let whole : p.front ++ CallLine a.plus client call ∷ p.rest ≡ script_of given ++ given_line ∷ [] = sym p.split ∙ one_more given given_line at in
       let counts : asked_of (calls client) p.front ≡ asked_of (calls client) (script_of given) = less (sym p.count) ∙ sym (own_count client given.items) in
-      let one = one_part (calls client) p.front (script_of given) p.rest [] (CallLine a.plus client call) line whole p.is (equals client) counts in
+      let one = one_part (calls client) p.front (script_of given) p.rest [] (CallLine a.plus client call) given_line whole p.is (equals client) counts in
       omega (arith, p.at, ap length one.0, length-map given.items (λ (item : Item). item.line))
     where
       less : {a b : ℕ} → suc a ≡ suc b → a ≡ b
@@ -258,6 +258,14 @@ lookup_over given lines more client read call none l = record {
   after_given = l.after_given;
   after_own = ap (list_any (is_of_client client)) (drop-append-le read.at lines more l.stood) ∙ list_any-append (is_of_client client) (drop read.at lines) more ∙ ap (λ (b : Bool). b || list_any (is_of_client client) more) l.after_own ∙ none;
 }
+
+pub at_work_stays : AtWorkStays
+at_work_stays given lines line at client None is = tt
+at_work_stays given lines line at client (Some read) is = (is.0, lookup_stays given lines line at client read is.0 is.1)
+
+pub at_work_over : AtWorkOver
+at_work_over given lines more client None none is = tt
+at_work_over given lines more client (Some read) none is = (is.0, lookup_over given lines more client read is.0 none is.1)
 
 pub seen_stays : SeenStays
 seen_stays given lines line at read g =

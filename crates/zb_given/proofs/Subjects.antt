@@ -56,7 +56,7 @@ asks_about line s h = by_line line h
     by_line (EventLine (LoseOf server)) e = at (loses server.0) e
     by_line (EventLine CheckpointOf) e = at checkpoints e
 
-one_subject : (s t : Subject) → same_subject s t ≡ true → s ≡ t
+pub one_subject : (s t : Subject) → same_subject s t ≡ true → s ≡ t
 one_subject (calls a) (calls b) h = ap calls (equal a b h)
 one_subject cleans cleans h = refl
 one_subject (rebuilds a) (rebuilds b) h = ap rebuilds (equal a b h)

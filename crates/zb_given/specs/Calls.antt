@@ -1,6 +1,6 @@
 -- What a world knows of a call that it was given: whether it is open, whether it may have its reply, and where a read of
 -- it was looked up.
-use Rattle.std.specs.Prelude.{◌≡◌, ℕ, ◌≤◌, ◌<◌, true, false, List, length, take, drop, Some}
+use Rattle.std.specs.Prelude.{◌≡◌, ℕ, ◌≤◌, ◌<◌, true, false, List, length, take, drop, Option, Some, None}
 use Rattle.std.specs.List.{list_any}
 use Rattle.zb_types.specs.declared.calls.Call.{Call}
 use Rattle.zb_types.specs.declared.lines.Outcome.{Outcome}
@@ -35,7 +35,12 @@ pub record IsLookedUp (given : Given) (lines : List Outcome) (client : ℕ) (rea
   pub after_given : point_of given client read.number ≤ read.at
   pub after_own : list_any (is_of_client client) (drop read.at lines) ≡ false
 
--- the tree that it saw
+-- so it is with a client's read at work, where one was looked up
+abbrev pub IsAtWork : Given → List Outcome → ℕ → Option LookedUp → Type 0
+IsAtWork given lines client None = Unit {0}
+IsAtWork given lines client (Some read) = (call : Call) × IsLookedUp given lines client read call
+
+-- the tree that a read saw which was looked up so
 abbrev pub tree_seen : Given → List Outcome → LookedUp → Tree
 tree_seen given lines read = tree_at (script_of given) (take read.at lines)
 

@@ -1,9 +1,10 @@
 -- Which of the calls, jobs and events that were given have their lines.
-use Rattle.std.specs.Prelude.{◌≡◌, ◌↔◌, ℕ, suc, ◌≤◌, Bool, true, List, [], ◌∷◌, ◌++◌, length, take, ◌&&◌}
+use Rattle.std.specs.Prelude.{◌≡◌, ◌↔◌, ℕ, suc, ◌≤◌, Bool, true, false, List, [], ◌∷◌, ◌++◌, length, take, ◌&&◌}
 use Rattle.std.specs.List.{AllByRecursion}
 use Rattle.zb_types.specs.declared.lines.Line.{Line}
+use Rattle.zb_types.specs.declared.lines.Line.TheVariants.{Call as CallLine, Job as JobLine, Steps, StepTo, Event as EventLine}
 use Rattle.zb_types.specs.declared.lines.Outcome.{Outcome}
-use Rattle.zb_claims.specs.Points.{Subject, asked_of, subject_asked, has_told, all_met}
+use Rattle.zb_claims.specs.Points.{Subject, calls, asked_of, subject_asked, has_told, all_met}
 use Rattle.zb_claims.specs.Runs.{has_ended, all_ended}
 use Rattle.zb_given.specs.Given.{Item, Given, with_item, script_of}
 use Rattle.zb_given.specs.Gives.{without_steps, with_plus}
@@ -29,6 +30,18 @@ are_in_turn script lines place (item ∷ items) = all_told (take item.at lines) 
 abbrev pub IsInTurn : Given → List Outcome → Type 0
 IsInTurn given lines = are_in_turn (script_of given) lines 0 given.items ≡ true
 
+-- a call
+abbrev pub is_call : Line → Bool
+is_call (CallLine plus client call) = true
+is_call (JobLine plus job) = false
+is_call (Steps actor count) = false
+is_call (StepTo actor kind) = false
+is_call (EventLine event) = false
+
+-- what is so with the calls of each client is so with each subject
+abbrev pub OfClients : (Subject → Type 0) → Type 0
+OfClients P = ((client : ℕ) → P (calls client)) → (subject : Subject) → P subject
+
 -- Laws.
 
 -- all have their lines where those of each subject have
@@ -38,6 +51,10 @@ AllTold = (given : Given) (lines : List Outcome) → (all_told lines (script_of 
 -- so it is with their last lines
 abbrev pub AllEnded : Type 0
 AllEnded = (given : Given) (lines : List Outcome) → (all_ended lines [] (script_of given) ≡ true) ↔ ((subject : Subject) → HaveLastLines given lines subject)
+
+-- where all items are calls, it is enough to know of the clients
+abbrev pub OnlyCalls : Type 0
+OnlyCalls = (given : Given) (lines : List Outcome) → AllByRecursion (λ item. is_call item.line ≡ true) given.items → OfClients (HaveLines given lines) × OfClients (HaveLastLines given lines)
 
 -- one more is in turn just where all before it have their lines
 abbrev pub TurnsOn : Type 0

@@ -3,13 +3,14 @@ use Rattle.std.specs.Prelude.{◌≡◌, ℕ, ◌≤◌, Bool, true, false, List
 use Rattle.zb_types.specs.declared.history.Did.{Did}
 use Rattle.zb_types.specs.declared.lines.Line.{Line}
 use Rattle.zb_types.specs.declared.lines.Outcome.{Outcome}
-use Rattle.zb_claims.specs.Points.{dids, tree_at}
+use Rattle.zb_claims.specs.Points.{Subject, dids, tree_at}
 use Rattle.zb_claims.specs.Fits.{clock_of_run, FitsBy, FitLines}
 use Rattle.zb_claims.specs.Runs.{all_ended}
-use Rattle.zb_laws.specs.Histories.{reads}
+use Rattle.zb_laws.specs.Histories.{reads, OneHistory, IsInOrder}
 use Rattle.zb_headline.specs.Ahead.{IsAhead}
 use Rattle.zb_given.specs.Given.{Given, with_item, with_finish, script_of, clock_of_given, FitGiven}
 use Rattle.zb_given.specs.Gives.{with_plus, without_steps, Gives, GivesBySubject}
+use Rattle.zb_given.specs.Ends.{HaveLastLines}
 
 -- two scripts tell one history of these lines
 pub record SameHistory (script other : List Line) (lines : List Outcome) : Type 0 where
@@ -31,6 +32,10 @@ MoreFinished = (given : Given) (lines : List Outcome) (at : ℕ) → FitGiven gi
 abbrev pub FrontFitsGiven : Type 0
 FrontFitsGiven = (given : Given) (lines more : List Outcome) → FitGiven given (lines ++ more) → FitsBy (clock_of_given given) (script_of given) lines
 
+-- they tell one legal history of the calls that were given
+abbrev pub TellsLegalGiven : Type 0
+TellsLegalGiven = (given : Given) (lines : List Outcome) → FitGiven given lines → OneHistory false (script_of given) lines × IsInOrder (script_of given) lines
+
 -- The script.
 
 -- where a program gives a script so, the lines fit it
@@ -48,6 +53,10 @@ BySubject = (script later : List Line) (given : Given) (lines : List Outcome) �
 -- each call and line has ended by what was given where it has by the script
 abbrev pub LiftsEnded : Type 0
 LiftsEnded = (script : List Line) (given : Given) (lines : List Outcome) → script_of given ≡ map with_plus (without_steps script) → all_ended lines [] (script_of given) ≡ all_ended lines [] script
+
+-- so all have by the script where all that was given has
+abbrev pub LiftsLast : Type 0
+LiftsLast = (script : List Line) (given : Given) (lines : List Outcome) → Gives script given lines → ((subject : Subject) → HaveLastLines given lines subject) → all_ended lines [] script ≡ true
 
 -- step lines may stand anywhere
 abbrev pub StepsAnywhere : Type 0

@@ -1,13 +1,13 @@
 -- A program's loop over the lines of a script: what it keeps, and how each thing that it does keeps that.
-use Rattle.std.specs.Prelude.{◌≡◌, ℕ, true, false, List, [], ◌∷◌, ◌++◌, length, Option, Some, None}
-use Rattle.std.specs.List.{list_any}
+use Rattle.std.specs.Prelude.{◌≡◌, ◌≢◌, ℕ, Bool, true, false, List, [], ◌∷◌, ◌++◌, length, Option, Some}
+use Rattle.std.specs.List.{list_any, AllByRecursion}
 use Rattle.zb_types.specs.declared.calls.Call.{Call}
 use Rattle.zb_types.specs.declared.lines.Line.{Line}
 use Rattle.zb_types.specs.declared.lines.Line.TheVariants.{Call as CallLine}
 use Rattle.zb_types.specs.declared.lines.Outcome.{Outcome}
-use Rattle.zb_claims.specs.Points.{Subject, calls, is_about, call_of, is_of_client, has_plus, subject_asked, is_begun}
-use Rattle.zb_given.specs.Given.{Given, none_given, with_item, with_finish, script_of, FitGiven}
-use Rattle.zb_given.specs.Calls.{LookedUp}
+use Rattle.zb_claims.specs.Points.{Subject, calls, is_about, is_of_client, has_plus, subject_asked, is_begun}
+use Rattle.zb_given.specs.Given.{Given, none_given, with_item, with_finish, FitGiven}
+use Rattle.zb_given.specs.Calls.{LookedUp, IsAtWork}
 use Rattle.zb_given.specs.Gives.{is_item, with_plus, Gives}
 use Rattle.zb_given.specs.Telling.{StepTells, LooksNow}
 use Rattle.zb_given.specs.Ends.{HaveLines}
@@ -31,9 +31,9 @@ pub record IsFirst : Type 0 where
 abbrev pub GoesTo : Type 0
 GoesTo = (script : List Line) (given : Given) (lines : List Outcome) (line : Line) → is_item line ≡ true → given.finishes ≡ [] → FitGiven given lines → IsPast script given lines → IsAt script line (with_item given (with_plus line) (length lines)) lines
 
--- a read of its client that is at work then isn't that call
+-- of its client a read that is at work then isn't that call
 abbrev pub LooksFirst : Type 0
-LooksFirst = (given : Given) (lines : List Outcome) (client at : ℕ) (call earlier : Call) (read : LookedUp) → call_of (script_of given) client read.number ≡ Some earlier → LooksNow (with_item given (CallLine true client call) at) lines client (Some read)
+LooksFirst = (given : Given) (lines : List Outcome) (client at : ℕ) (call : Call) (read : Option LookedUp) → IsAtWork given lines client read → LooksNow (with_item given (CallLine true client call) at) lines client read
 
 -- a line with a plus is past at once
 abbrev pub GoesPastPlus : Type 0
@@ -56,6 +56,11 @@ StepsOwn = (script : List Line) (line : Line) (given : Given) (lines : List Outc
 abbrev pub StepsOther : Type 0
 StepsOther = (script : List Line) (line : Line) (given : Given) (lines more : List Outcome) → FitGiven given (lines ++ more) → ((client : ℕ) → is_about (calls client) line ≡ true → list_any (is_of_client client) more ≡ false)
     → IsAt script line given lines → IsAt script line given (lines ++ more)
+
+-- as those of another client
+abbrev pub OtherClients : Type 0
+OtherClients = (plus : Bool) (client other : ℕ) (call : Call) (more : List Outcome) → other ≢ client → AllByRecursion (λ line. is_of_client other line ≡ true) more
+    → (c : ℕ) → is_about (calls c) (CallLine plus client call) ≡ true → list_any (is_of_client c) more ≡ false
 
 -- Between two lines: whatever lines come.
 abbrev pub StepsPast : Type 0

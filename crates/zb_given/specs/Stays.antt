@@ -1,5 +1,5 @@
 -- What stays of what a world knows, where more is given or more lines are told.
-use Rattle.std.specs.Prelude.{◌≡◌, ℕ, suc, ◌≤◌, ◌<◌, true, false, List, [], ◌∷◌, ◌++◌, length, take, Some, slice_get}
+use Rattle.std.specs.Prelude.{◌≡◌, ℕ, suc, ◌≤◌, ◌<◌, true, false, List, [], ◌∷◌, ◌++◌, length, take, Option, Some, slice_get}
 use Rattle.std.specs.List.{list_any}
 use Rattle.zb_types.specs.declared.calls.Call.{Call}
 use Rattle.zb_types.specs.declared.nodes.Node.TheVariants.{Manager}
@@ -10,7 +10,7 @@ use Rattle.zb_types.specs.Apply.{is_update}
 use Rattle.zb_claims.specs.Points.{calls, crashes, asked_of, told_of, call_of, ends, is_of_client, is_event, has_line, has_final, is_before_crash}
 use Rattle.zb_claims.specs.Fits.{are_ended, WasFull}
 use Rattle.zb_given.specs.Given.{Given, with_item, script_of, place_of, point_of, calls_of, FitGiven}
-use Rattle.zb_given.specs.Calls.{IsOpen, LookedUp, IsLookedUp, tree_seen}
+use Rattle.zb_given.specs.Calls.{IsOpen, LookedUp, IsLookedUp, IsAtWork, tree_seen}
 
 -- Calls.
 
@@ -84,7 +84,15 @@ LookupStays = (given : Given) (lines : List Outcome) (line : Line) (at client : 
 abbrev pub LookupOver : Type 0
 LookupOver = (given : Given) (lines more : List Outcome) (client : ℕ) (read : LookedUp) (call : Call) → list_any (is_of_client client) more ≡ false → IsLookedUp given lines client read call → IsLookedUp given (lines ++ more) client read call
 
--- the tree that it saw is the same where more is given
+-- so it is with a client's read at work
+abbrev pub AtWorkStays : Type 0
+AtWorkStays = (given : Given) (lines : List Outcome) (line : Line) (at client : ℕ) (read : Option LookedUp) → IsAtWork given lines client read → IsAtWork (with_item given line at) lines client read
+
+-- over the lines of others
+abbrev pub AtWorkOver : Type 0
+AtWorkOver = (given : Given) (lines more : List Outcome) (client : ℕ) (read : Option LookedUp) → list_any (is_of_client client) more ≡ false → IsAtWork given lines client read → IsAtWork given (lines ++ more) client read
+
+-- the tree that a read saw is the same where more is given
 abbrev pub SeenStays : Type 0
 SeenStays = (given : Given) (lines : List Outcome) (line : Line) (at : ℕ) (read : LookedUp) → FitGiven given lines → tree_seen (with_item given line at) lines read ≡ tree_seen given lines read
 

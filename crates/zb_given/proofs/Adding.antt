@@ -3,7 +3,7 @@ use Rattle.std.proofs.Common.{◌≡◌, ℕ, zero, suc, ◌≤◌, Bool, true, 
 use Rattle.std.specs.List.{AllByRecursion}
 use Rattle.std.proofs.lemmas.List.{append-nil, length-append, length-take-le, take-append-drop}
 use Rattle.zb_types.specs.declared.calls.Call.{Call}
-use Rattle.zb_types.specs.declared.calls.Call.TheVariants.{Create, Mkdir, Remove, Rename, Write, Truncate, Sync, Read, List as ListOf, Stat, Find}
+use Rattle.zb_types.specs.declared.calls.Call.TheVariants.{Write, Truncate}
 use Rattle.zb_types.specs.declared.lines.Line.{Line}
 use Rattle.zb_types.specs.declared.lines.Said.{Said}
 use Rattle.zb_types.specs.declared.lines.Said.TheVariants.{Reply as Replied, Buffered, Kept, Failed, Dropped, Unfinished}
@@ -13,7 +13,7 @@ use Rattle.zb_types.specs.Apply.{is_update, is_bufferable}
 use Rattle.zb_claims.specs.Points.{Subject, told_of}
 use Rattle.zb_claims.specs.Fits.{Clock, SaidFitsBy, EventFitsBy, FitsNextBy, FitsFromBy}
 use Rattle.zb_given.specs.Given.{Item, Given, script_of, point, place_of, point_of, clock_of_given, FitGiven}
-use Rattle.zb_given.specs.Calls.{IsOpen, IsWanted}
+use Rattle.zb_given.specs.Calls.{IsOpen, IsOwed}
 use Rattle.zb_given.specs.Adds.{AddsBuffered, AddsUpdate, AddsRead, AddsKept, AddsFailed, AddsDropped, AddsUnfinished, AddsClean, AddsRebuild, AddsEvent}
 use Rattle.zb_given.proofs.Small.{no, on, nat_le_yes}
 use Rattle.zb_given.proofs.Asking.{asked_some}
@@ -58,8 +58,8 @@ of_call given lines client n call said g o fits =
       fits = fits a.plus;
     })
 
-wanted : (given : Given) (lines : List Outcome) (subject : Subject) → FitGiven given lines → IsWanted given lines subject → EventFitsBy (clock_of_given given) (script_of given) lines subject
-wanted given lines subject g o =
+owed : (given : Given) (lines : List Outcome) (subject : Subject) → FitGiven given lines → IsOwed given lines subject → EventFitsBy (clock_of_given given) (script_of given) lines subject
+owed given lines subject g o =
     let a = asked_some (script_of given) subject (told_of subject lines) o in
     record {
       place = a.0.0;
@@ -112,10 +112,10 @@ pub adds_unfinished : AddsUnfinished
 adds_unfinished given lines client n call cause g o is has over = of_call given lines client n call (Unfinished cause) g o (λ plus. record { update = is; all = over; kept = has })
 
 pub adds_clean : AddsClean
-adds_clean given lines pass g o = adds given lines (OfClean pass) g (wanted given lines _ g o)
+adds_clean given lines pass g o = adds given lines (OfClean pass) g (owed given lines _ g o)
 
 pub adds_rebuild : AddsRebuild
-adds_rebuild given lines server end g o = adds given lines (OfRebuild server end) g (wanted given lines _ g o)
+adds_rebuild given lines server end g o = adds given lines (OfRebuild server end) g (owed given lines _ g o)
 
 pub adds_event : AddsEvent
-adds_event given lines event answer g o = adds given lines (OfEvent event answer) g (wanted given lines _ g o)
+adds_event given lines event answer g o = adds given lines (OfEvent event answer) g (owed given lines _ g o)

@@ -1,7 +1,6 @@
 -- What is ahead of the lines.
-use Rattle.std.proofs.Common.{◌≡◌, ℕ, zero, suc, ◌+◌, ◌<◌, ◌≤◌, Bool, true, false, not, cond, ◌&&◌, ◌||◌, List, [], ◌∷◌, ◌++◌, length, Option, Some, None, refl, sym, ap, subst, ◌∙◌, append_assoc, arith, inl, inr}
-use Rattle.std.specs.Prelude.{map, ◌⊎◌}
-use Rattle.std.specs.List.{AllByRecursion}
+use Rattle.std.proofs.Common.{◌≡◌, ℕ, zero, suc, ◌≤◌, true, false, cond, List, [], ◌∷◌, ◌++◌, length, Option, Some, None, refl, sym, ap, subst, ◌∙◌, append_assoc, arith, inl, inr}
+use Rattle.std.specs.Prelude.{map}
 use Rattle.std.proofs.lemmas.List.{append-nil, length-append, length-map}
 use Rattle.zb_types.specs.declared.calls.Call.{Call}
 use Rattle.zb_types.specs.declared.history.Did.{Did}
@@ -16,8 +15,8 @@ use Rattle.zb_headline.specs.Reasons.{begun_in}
 use Rattle.zb_headline.specs.Ahead.{is_waiting, waiting_to, waiting, numbers_of, IsAhead}
 use Rattle.zb_laws.proofs.Tests.{at_or_below}
 use Rattle.zb_laws.proofs.Each.{each_weaker}
-use Rattle.zb_given.specs.Given.{Given, script_of, place_in, clock_of_given, FitGiven}
-use Rattle.zb_given.specs.Gives.{without_steps, with_plus, about, Gives, GivesBySubject}
+use Rattle.zb_given.specs.Given.{Given, script_of, place_in, clock_of_given}
+use Rattle.zb_given.specs.Gives.{without_steps, with_plus, about, Gives}
 use Rattle.zb_given.specs.Lifts.{LiftsAhead, LiftsAheadThreads}
 use Rattle.zb_given.proofs.Asking.{asked_more}
 use Rattle.zb_given.proofs.Parts.{asks_call, within}
@@ -37,8 +36,7 @@ waiting_more B lines client a (suc n) le =
     elim (at_or_below a (suc n) le) as (λ _. (rest : List ℕ) × (waiting_to B lines client (suc n) ≡ waiting_to B lines client a ++ rest)) [
       | inl e ↦ ([], ap (waiting_to B lines client) (sym e) ∙ sym (append-nil (waiting_to B lines client a)))
       | inr lt ↦
-          let fewer = waiting_more B lines client a n (omega (arith, lt)) in
-          (
+          let fewer = waiting_more B lines client a n (omega (arith, lt)) in (
             fewer.0 ++ cond (is_waiting B lines client (suc n)) (suc n ∷ []) [],
             ap (λ (l : List ℕ). l ++ cond (is_waiting B lines client (suc n)) (suc n ∷ []) []) fewer.1
                 ∙ append_assoc (waiting_to B lines client a) fewer.0 (cond (is_waiting B lines client (suc n)) (suc n ∷ []) []),

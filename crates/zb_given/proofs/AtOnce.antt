@@ -1,10 +1,8 @@
 -- Reads without a plus are answered at once.
-use Rattle.std.proofs.Common.{◌≡◌, ℕ, zero, suc, ◌+◌, ◌<◌, ◌≤◌, Bool, true, false, ◌&&◌, ◌||◌, eqb, List, [], ◌∷◌, ◌++◌, length, take, Option, Some, None, refl, sym, ap, subst, ◌∙◌, append_assoc, arith, inl, inr}
+use Rattle.std.proofs.Common.{◌≡◌, ℕ, suc, ◌<◌, ◌≤◌, Bool, true, false, ◌&&◌, ◌||◌, eqb, List, [], ◌∷◌, ◌++◌, length, Option, Some, None, refl, sym, ap, subst, ◌∙◌, append_assoc, arith, inl, inr}
 use Rattle.std.specs.Prelude.{map}
-use Rattle.std.specs.List.{list_any, AllByRecursion}
 use Rattle.std.proofs.lemmas.Bool.{cases_lt}
-use Rattle.std.proofs.lemmas.List.{append-nil, length-map}
-use Rattle.std.proofs.Math.Seq.{take-append_seam}
+use Rattle.std.proofs.lemmas.List.{append-nil}
 use Rattle.zb_types.specs.declared.calls.Call.{Call}
 use Rattle.zb_types.specs.declared.calls.Reply.{Reply}
 use Rattle.zb_types.specs.declared.lines.Line.{Line}
@@ -16,18 +14,18 @@ use Rattle.zb_types.specs.declared.lines.Outcome.TheVariants.{Call as OfCall, Cl
 use Rattle.zb_types.specs.Tree.{Tree}
 use Rattle.zb_types.specs.Apply.{is_update, reply_to}
 use Rattle.zb_types.specs.History.{tree_after}
-use Rattle.zb_claims.specs.Points.{calls, asked, asked_of, call_in, call_of, is_final, has_line, has_final, has_told, subject_in, is_met, all_met, is_begun, tree_at}
+use Rattle.zb_claims.specs.Points.{calls, asked, asked_of, call_in, call_of, is_final, has_line, has_final, has_told, subject_in, all_met, is_begun, tree_at}
 use Rattle.zb_claims.specs.Fits.{Clock, SaidFitsBy, CallFitsBy, FitsNextBy, FitsFromBy}
-use Rattle.zb_laws.proofs.Tests.{equal, or_left, or_right, or_cases, first_true, last_true}
+use Rattle.zb_laws.proofs.Tests.{equal, or_left, first_true, last_true}
 use Rattle.zb_given.specs.Given.{Given, script_of, clock_of_given}
 use Rattle.zb_given.specs.Gives.{with_plus, about, IsNow, IsAtOnce, AreAtOnce}
 use Rattle.zb_given.proofs.Small.{no, on}
 use Rattle.zb_given.proofs.Asking.{asked_some, asked_more}
 use Rattle.zb_given.proofs.Parts.{splits}
-use Rattle.zb_given.proofs.Plus.{plus_about, asked_of_plus}
+use Rattle.zb_given.proofs.Plus.{asked_of_plus}
 use Rattle.zb_given.proofs.AllMet.{all_met_append}
 use Rattle.zb_given.proofs.Begun.{begun_whole, begun_lines}
-use Rattle.zb_given.proofs.Carry.{Extends, IsAsked, asked_pos, call_agrees, dids_agree, all_asked}
+use Rattle.zb_given.proofs.Carry.{Extends, asked_pos, call_agrees, dids_agree, all_asked}
 use Rattle.zb_given.proofs.MoreGiving.{front_from}
 use Rattle.zb_given.proofs.RunLifting.{plus_extend}
 use Rattle.zb_given.proofs.Adding.{buffers_update}

@@ -1,12 +1,12 @@
 -- What was begun stays so, and step lines don't count.
-use Rattle.std.proofs.Common.{◌≡◌, ℕ, suc, ◌+◌, ◌≤◌, Bool, true, false, ◌&&◌, List, [], ◌∷◌, ◌++◌, length, take, drop, Some, None, refl, sym, ap, subst, ◌∙◌, arith}
+use Rattle.std.proofs.Common.{◌≡◌, ℕ, ◌+◌, ◌≤◌, true, ◌&&◌, List, [], ◌∷◌, ◌++◌, length, take, drop, refl, sym, ap, subst, ◌∙◌, arith}
 use Rattle.std.specs.Prelude.{filter, nat_le}
 use Rattle.std.proofs.lemmas.List.{length-append, take-append-le, take-append-drop}
 use Rattle.std.proofs.lemmas.List.Elements.{filter-append}
 use Rattle.std.proofs.Math.Seq.{take-length}
 use Rattle.zb_types.specs.declared.lines.Line.{Line}
 use Rattle.zb_types.specs.declared.lines.Outcome.{Outcome}
-use Rattle.zb_claims.specs.Points.{Subject, calls, cleans, rebuilds, crashes, arms, ups, loses, checkpoints, same_subject, subject_of, told_of, names, has_told, subject_in, is_met, all_met, all_answered, is_begun}
+use Rattle.zb_claims.specs.Points.{Subject, calls, cleans, rebuilds, crashes, arms, ups, loses, checkpoints, same_subject, subject_of, told_of, names, has_told, subject_in, is_met, all_answered, is_begun}
 use Rattle.zb_laws.proofs.Tests.{both, any_more}
 use Rattle.zb_given.specs.Gives.{without_steps}
 use Rattle.zb_given.proofs.Small.{nat_le_yes, nat_le_is}

@@ -1,5 +1,5 @@
 -- Crashes of the file manager, and calls that were given before them.
-use Rattle.std.proofs.Common.{◌≡◌, ℕ, suc, ◌+◌, ◌≤◌, Bool, true, false, cond, ◌&&◌, ◌||◌, eqb, List, [], ◌∷◌, ◌++◌, length, take, refl, sym, ap, ◌∙◌, arith}
+use Rattle.std.proofs.Common.{◌≡◌, ℕ, suc, ◌+◌, ◌≤◌, Bool, true, false, cond, ◌&&◌, ◌||◌, eqb, List, [], ◌∷◌, ◌++◌, length, take, refl, ap, ◌∙◌, arith}
 use Rattle.std.specs.Prelude.{filter, nat_lt}
 use Rattle.std.specs.List.{list_any}
 use Rattle.std.proofs.lemmas.Bool.Decides.{nat_tests}
@@ -8,8 +8,8 @@ use Rattle.zb_types.specs.declared.nodes.EventAnswer.TheVariants.{Done as EventD
 use Rattle.zb_types.specs.declared.lines.Told.TheVariants.{Crash, Arm, Up, Lose, Checkpoint}
 use Rattle.zb_types.specs.declared.lines.Outcome.{Outcome}
 use Rattle.zb_types.specs.declared.lines.Outcome.TheVariants.{Call as OfCall, Clean as OfClean, Rebuild as OfRebuild, Event as OfEvent}
-use Rattle.zb_claims.specs.Points.{Subject, crashes, ups, asked_of, told_of, same_subject, subject_of, is_event, crash_from, is_before_crash}
-use Rattle.zb_laws.proofs.Tests.{or_left, or_right, first_false, last_false}
+use Rattle.zb_claims.specs.Points.{Subject, crashes, ups, asked_of, told_of, same_subject, subject_of, is_event, crash_from}
+use Rattle.zb_laws.proofs.Tests.{or_right, first_false, last_false}
 use Rattle.zb_given.specs.Stays.{NoCrash, CrashIsLater}
 
 up_is_no_crash : (line : Outcome) → is_event (ups Manager) line ≡ true → same_subject (crashes Manager) (subject_of line) ≡ false
@@ -67,7 +67,6 @@ pub crash_is_later : CrashIsLater
 crash_is_later script lines line place few before =
     ap (λ (k : ℕ). eqb k 0 || nat_lt (asked_of (crashes Manager) (take place script)) k) (crash_push 0 0 lines line)
     ∙ later_by (is_event (ups Manager) line) (same_subject (crashes Manager) (subject_of line)) (is_event (crashes Manager) line && eqb (crash_from 0 0 lines) 0) (crash_from 0 0 lines) (0 + told_of (crashes Manager) lines) (asked_of (crashes Manager) (take place script)) (omega (arith, few)) before
-
 
 -- where it never crashed it isn't down
 

@@ -1,5 +1,5 @@
 -- A program's loop over one row, by the laws alone: each line fits, and what the loop keeps goes on.
-use Rattle.std.proofs.Common.{◌≡◌, ℕ, Bool, true, false, List, [], ◌∷◌, ◌++◌, length, Option, Some, None, refl, ap, ◌∙◌, arith, inl, inr}
+use Rattle.std.proofs.Common.{◌≡◌, ℕ, true, false, List, [], ◌∷◌, ◌++◌, Some, None, refl, ap, ◌∙◌, arith, inr}
 use Rattle.std.specs.Prelude.{codes}
 use Rattle.zb_types.specs.declared.calls.Call.{Call}
 use Rattle.zb_types.specs.declared.calls.Call.TheVariants.{Create, Write, Read}
@@ -14,13 +14,13 @@ use Rattle.zb_types.specs.declared.lines.Told.TheVariants.{Crash, Up}
 use Rattle.zb_types.specs.declared.lines.Outcome.{Outcome}
 use Rattle.zb_types.specs.declared.lines.Outcome.TheVariants.{Call as OfCall, Event as OfEvent}
 use Rattle.zb_types.specs.Apply.{is_update, reply_to}
-use Rattle.zb_claims.specs.Points.{calls, crashes, ups, call_of, has_final, is_of_client, subject_asked, tree_at}
+use Rattle.zb_claims.specs.Points.{calls, crashes, ups, call_of, has_final, is_of_client, tree_at}
 use Rattle.zb_claims.specs.Fits.{is_next}
 use Rattle.zb_claims.specs.Rows.{fid, dropped_script, dropped_report}
 use Rattle.zb_given.specs.Given.{Given, none_given, script_of, FitGiven}
 use Rattle.zb_given.specs.Calls.{IsOpen, LookedUp}
 use Rattle.zb_given.specs.Telling.{IsOfLookup, StepTells}
-use Rattle.zb_given.specs.Loops.{IsPast, IsAt}
+use Rattle.zb_given.specs.Loops.{IsPast}
 use Rattle.zb_given.specs.Worked.{one_given, write_given, more_written, crash_given, up_given, read_given, dropped_given, DroppedLift}
 use Rattle.zb_given.proofs.Small.{no, on}
 use Rattle.zb_given.proofs.MoreGiving.{more_given, more_finished}

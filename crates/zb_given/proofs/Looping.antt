@@ -1,5 +1,5 @@
 -- A program's loop keeps what it keeps.
-use Rattle.std.proofs.Common.{◌≡◌, ℕ, suc, ◌+◌, ◌<◌, ◌≤◌, Bool, true, false, cond, ◌||◌, eqb, List, [], ◌∷◌, ◌++◌, length, take, Option, Some, None, refl, sym, ap, subst, ◌∙◌, arith, inl, inr}
+use Rattle.std.proofs.Common.{◌≡◌, ℕ, suc, ◌+◌, ◌<◌, ◌≤◌, Bool, true, false, cond, ◌||◌, List, [], ◌∷◌, ◌++◌, length, take, Option, Some, None, refl, sym, ap, subst, ◌∙◌, arith, inl, inr}
 use Rattle.std.specs.Prelude.{map, ◌≢◌, ◌⊎◌}
 use Rattle.std.specs.List.{list_any, AllByRecursion}
 use Rattle.std.proofs.lemmas.List.{append-nil}
@@ -9,13 +9,11 @@ use Rattle.zb_types.specs.declared.calls.Call.{Call}
 use Rattle.zb_types.specs.declared.calls.Reply.{Reply}
 use Rattle.zb_types.specs.declared.lines.Line.{Line}
 use Rattle.zb_types.specs.declared.lines.Line.TheVariants.{Call as CallLine}
-use Rattle.zb_types.specs.declared.lines.Said.TheVariants.{Reply as Replied}
 use Rattle.zb_types.specs.declared.lines.Outcome.{Outcome}
-use Rattle.zb_types.specs.declared.lines.Outcome.TheVariants.{Call as OfCall}
-use Rattle.zb_types.specs.Apply.{is_update, reply_to}
-use Rattle.zb_claims.specs.Points.{Subject, calls, subject_of, is_about, asked_of, call_of, is_of_client, has_told, has_plus, subject_asked, subject_in, is_met, is_begun, tree_at}
+use Rattle.zb_types.specs.Apply.{reply_to}
+use Rattle.zb_claims.specs.Points.{Subject, calls, subject_of, is_about, asked_of, is_of_client, has_told, has_plus, subject_asked, is_met, is_begun, tree_at}
 use Rattle.zb_laws.proofs.Tests.{equal, equals, first_false, last_false}
-use Rattle.zb_given.specs.Given.{Given, with_item, script_of, calls_of, FitGiven}
+use Rattle.zb_given.specs.Given.{Given, script_of, calls_of, FitGiven}
 use Rattle.zb_given.specs.Calls.{LookedUp}
 use Rattle.zb_given.specs.Gives.{is_item, without_steps, with_plus, Gives}
 use Rattle.zb_given.specs.Telling.{is_number, seen_by, IsOfLookup, AreOfLookups, IsOfNow, LooksNow}
@@ -24,12 +22,12 @@ use Rattle.zb_given.proofs.Subjects.{asks_about, one_subject}
 use Rattle.zb_given.proofs.Parts.{asks_call}
 use Rattle.zb_given.proofs.Plus.{asked_of_plus}
 use Rattle.zb_given.proofs.StepLines.{asked_of_steps, step_waits}
-use Rattle.zb_given.proofs.AllMet.{asked_of_one, asked_of_none, asked_of_append}
+use Rattle.zb_given.proofs.AllMet.{asked_of_one, asked_of_append}
 use Rattle.zb_given.proofs.Begun.{begun_lines, begun_row, begun_steps}
 use Rattle.zb_given.proofs.Carry.{asked_pos}
 use Rattle.zb_given.proofs.Staying.{counts_own, next_is_fresh}
 use Rattle.zb_given.proofs.Giving.{gives_row, gives_steps, gives_lines, gives_finish}
-use Rattle.zb_given.proofs.AtOnce.{IsNowHere, AreNowHere, lines_are_now}
+use Rattle.zb_given.proofs.AtOnce.{AreNowHere, lines_are_now}
 
 pub is_first : IsFirst
 is_first = record { past = record { gives = record { items = refl; begun = refl; over = refl; at_once = tt }; begun = refl }; fit = record { fits = tt; stood = tt } }

@@ -1,7 +1,7 @@
 -- More is given.
-use Rattle.std.proofs.Common.{◌≡◌, ℕ, zero, suc, ◌+◌, ◌<◌, ◌≤◌, Bool, true, false, ◌||◌, List, [], ◌∷◌, ◌++◌, length, take, Some, refl, sym, ap, subst, ◌∙◌, append_assoc, arith, inl}
+use Rattle.std.proofs.Common.{◌≡◌, ℕ, zero, suc, ◌+◌, ◌<◌, ◌≤◌, true, false, ◌||◌, List, [], ◌∷◌, ◌++◌, length, take, Some, refl, sym, ap, subst, ◌∙◌, append_assoc, arith, inl}
 use Rattle.std.specs.Prelude.{map, nat_le}
-use Rattle.std.specs.List.{list_any, AllByRecursion}
+use Rattle.std.specs.List.{list_any}
 use Rattle.std.proofs.lemmas.List.{append-nil, length-map, map-append, take-append-le}
 use Rattle.std.proofs.lemmas.List.Elements.{filter-append}
 use Rattle.zb_types.specs.declared.nodes.Node.TheVariants.{Manager}
@@ -98,4 +98,3 @@ front_from w script before (line ∷ lines) more f = (f.0, front_from w script (
 
 pub front_given : FrontFitsGiven
 front_given given lines more g = front_from (clock_of_given given) (script_of given) [] lines more g.fits
-

@@ -85,7 +85,6 @@ one_part s (x ∷ f) (y ∷ g) r t l m e a b same =
     let rest = one_part s f g r t l m tails a b fewer in
     (ap (λ (z : Line). z ∷ f) first ∙ ap (λ (z : List Line). y ∷ z) rest.0, rest.1)
 
-
 -- it stands within the script
 pub within : (A : List Line) (s : Subject) (n j : ℕ) (l : Line) → asked A s n ≡ Some (j, l) → j < length A
 within A s n j l is =

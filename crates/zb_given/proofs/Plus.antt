@@ -61,4 +61,3 @@ places_same base s (suc n) (line ∷ script) =
 pub same_place : (s : Subject) (n : ℕ) (script : List Line) (j place : ℕ) (l line : Line) → asked (map with_plus script) s n ≡ Some (j, l) → asked script s n ≡ Some (place, line) → j ≡ place
 same_place s n script j place l line a b =
     let e : Some j ≡ Some place = sym (ap place_found a) ∙ places_same 0 s n script ∙ ap place_found b in cc
-

@@ -1,5 +1,5 @@
 -- Reasons carry over.
-use Rattle.std.proofs.Common.{◌≡◌, ℕ, suc, ◌+◌, ◌<◌, ◌≤◌, Bool, true, false, not, ◌&&◌, ◌||◌, List, [], ◌∷◌, ◌++◌, length, Option, Some, None, refl, sym, ap, subst, ◌∙◌, append_assoc, arith, inl, inr}
+use Rattle.std.proofs.Common.{◌≡◌, ℕ, suc, ◌≤◌, Bool, true, false, not, ◌&&◌, ◌||◌, List, [], ◌∷◌, ◌++◌, length, Option, Some, None, refl, sym, ap, subst, ◌∙◌, append_assoc, arith, inl, inr}
 use Rattle.std.specs.Prelude.{map, is_some, ◌⊎◌}
 use Rattle.std.specs.List.{list_any}
 use Rattle.std.proofs.lemmas.List.{append-nil, length-append}
@@ -27,11 +27,11 @@ use Rattle.zb_types.specs.declared.lines.Outcome.{Outcome}
 use Rattle.zb_types.specs.declared.lines.Outcome.TheVariants.{Call as OfCall, Clean as OfClean, Rebuild as OfRebuild, Event as OfEvent}
 use Rattle.zb_claims.specs.Points.{Subject, calls, cleans, rebuilds, crashes, arms, ups, loses, told_of, asked, has_plus, is_event}
 use Rattle.zb_claims.specs.Fits.{Clock, clock_of_run}
-use Rattle.zb_headline.specs.Reasons.{Shown, Place, Since, begun_in, is_under_way, is_copied, puts_up, are_begun, copies_begun, IsSpent, WasArmed, IsChanging, IsHalfMended, ServerReason, ManagerReason, NodeReason, CauseReason, crashed_from, dropped_in, BeginsAt, InSpan, breaks, MendedFails, PassReason, MendReason, SaidReason, MendsSince, MayHaveMended, UpReason, platter_of, StoppedReason, EventReason, HasReason}
+use Rattle.zb_headline.specs.Reasons.{Shown, Place, Since, begun_in, is_under_way, is_copied, puts_up, are_begun, copies_begun, WasArmed, ServerReason, ManagerReason, NodeReason, CauseReason, crashed_from, dropped_in, InSpan, breaks, MendedFails, PassReason, MendReason, SaidReason, UpReason, platter_of, StoppedReason, EventReason, HasReason}
 use Rattle.zb_laws.proofs.Tests.{both, first_true, last_true, or_left, or_right, or_cases}
 use Rattle.zb_given.specs.Given.{Given, with_item, with_finish, script_of, point, clock_of_given}
-use Rattle.zb_given.specs.Gives.{without_steps, with_plus, Gives}
-use Rattle.zb_given.specs.Reasoning.{place_given, ReasonStays, ReasonFinished, IsRightThere, LiftsReason, LiftsReasonThreads}
+use Rattle.zb_given.specs.Gives.{without_steps, with_plus}
+use Rattle.zb_given.specs.Reasoning.{ReasonStays, ReasonFinished, IsRightThere, LiftsReason, LiftsReasonThreads}
 use Rattle.zb_given.proofs.Small.{nat_le_is}
 use Rattle.zb_given.proofs.StepLines.{steps_twice}
 use Rattle.zb_given.proofs.Plus.{same_place}

@@ -13,7 +13,7 @@ use Rattle.zb_types.specs.declared.lines.Said.TheVariants.{Reply as Replied}
 use Rattle.zb_types.specs.declared.lines.Outcome.{Outcome}
 use Rattle.zb_types.specs.declared.lines.Outcome.TheVariants.{Call as OfCall}
 use Rattle.zb_types.specs.Apply.{is_update, reply_to}
-use Rattle.zb_claims.specs.Points.{Subject, calls, crashes, is_about, asked, asked_of, is_begun, tree_at}
+use Rattle.zb_claims.specs.Points.{crashes, is_about, asked_of, is_begun, tree_at}
 use Rattle.zb_claims.specs.Fits.{clock_of_run, FitsBy, FitLines}
 use Rattle.zb_laws.proofs.Tests.{first_true, last_true, or_cases}
 use Rattle.zb_laws.proofs.ReadPoints.{tells_legal}

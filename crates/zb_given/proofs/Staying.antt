@@ -1,8 +1,7 @@
 -- What stays of calls that were given.
-use Rattle.std.proofs.Common.{◌≡◌, ℕ, zero, suc, ◌+◌, ◌<◌, ◌≤◌, Bool, true, false, not, cond, ◌&&◌, ◌||◌, eqb, List, [], ◌∷◌, ◌++◌, length, take, drop, Option, Some, None, refl, sym, ap, subst, ◌∙◌, append_assoc, arith, inl, inr}
-use Rattle.std.specs.Prelude.{map, filter, nat_le, nat_lt, ◌-◌, slice_get, ◌⊎◌}
+use Rattle.std.proofs.Common.{◌≡◌, ℕ, zero, suc, ◌<◌, ◌≤◌, Bool, true, false, not, cond, ◌&&◌, ◌||◌, eqb, List, [], ◌∷◌, ◌++◌, length, take, drop, Some, None, refl, sym, ap, subst, ◌∙◌, append_assoc, arith, inl, inr}
+use Rattle.std.specs.Prelude.{map, nat_le, ◌-◌, slice_get, ◌⊎◌}
 use Rattle.std.specs.List.{list_any, flat_map, AllByRecursion}
-use Rattle.std.proofs.lemmas.Bool.Decides.{nat_tests}
 use Rattle.std.proofs.lemmas.Grind.{flat_map-append}
 use Rattle.std.proofs.lemmas.List.{length-append, length-map, drop-append-le, take-append-le, take-append-drop}
 use Rattle.std.proofs.lemmas.List.Folds.{list_any-append}
@@ -16,11 +15,10 @@ use Rattle.zb_types.specs.declared.lines.Told.TheVariants.{Crash, Arm, Up, Lose,
 use Rattle.zb_types.specs.declared.lines.Outcome.{Outcome}
 use Rattle.zb_types.specs.declared.lines.Outcome.TheVariants.{Call as OfCall, Clean as OfClean, Rebuild as OfRebuild, Event as OfEvent}
 use Rattle.zb_types.specs.History.{tree_after}
-use Rattle.zb_claims.specs.Points.{Subject, calls, is_about, asked, asked_of, call_in, call_of, names, ends, is_final, has_line, has_final, is_of_client, tree_at}
-use Rattle.zb_claims.specs.Fits.{is_update_in, are_ended, is_next, WasFull}
-use Rattle.zb_laws.proofs.Tests.{equal, equals, both, first_true, last_true, or_left, or_right, or_cases, any_more}
-use Rattle.zb_given.specs.Given.{Item, Given, with_item, script_of, point, place_in, place_of, point_of, call_by, calls_of, clock_of_given, FitGiven}
-use Rattle.zb_given.specs.Calls.{IsOpen, LookedUp, IsLookedUp, tree_seen}
+use Rattle.zb_claims.specs.Points.{calls, is_about, asked, asked_of, call_in, call_of, names, ends, is_final, has_line, has_final, is_of_client, tree_at}
+use Rattle.zb_claims.specs.Fits.{is_update_in, are_ended}
+use Rattle.zb_laws.proofs.Tests.{equal, equals, both, first_true, last_true, any_more}
+use Rattle.zb_given.specs.Given.{Item, Given, with_item, script_of, point, place_in, place_of, call_by, calls_of, clock_of_given}
 use Rattle.zb_given.specs.Gives.{with_plus, about}
 use Rattle.zb_given.specs.Stays.{NamesOwn, CountsOwn, IsFresh, NextIsFresh, NoneIsAhead, CallStays, OpenStays, OpenOver, EndedOver, FullOver, LooksUp, LookupStays, LookupOver, AtWorkStays, AtWorkOver, SeenStays, SeenOver}
 use Rattle.zb_given.proofs.Small.{get_last, all_front}
@@ -139,7 +137,6 @@ call_stays given line at client n call is =
       place = place;
       point = ap (point (given.items ++ record { line = line; at = at } ∷ [])) place ∙ point_kept given line at given.items (record { line = line; at = at }) (place_of given client n) lt;
     }
-
 
 -- No line names what wasn't given.
 

@@ -1,5 +1,5 @@
 -- Step lines may stand anywhere.
-use Rattle.std.proofs.Common.{◌≡◌, ℕ, suc, Bool, true, false, not, cond, ◌||◌, List, [], ◌∷◌, ◌++◌, length, take, Some, sym, ap, ◌∙◌, arith, inl}
+use Rattle.std.proofs.Common.{◌≡◌, ℕ, suc, Bool, true, not, cond, ◌||◌, List, [], ◌∷◌, ◌++◌, length, take, Some, sym, ap, ◌∙◌, arith, inl}
 use Rattle.std.specs.Prelude.{map}
 use Rattle.std.proofs.lemmas.List.{append-nil}
 use Rattle.std.proofs.lemmas.List.Elements.{filter-append}
@@ -60,4 +60,3 @@ module _ (A B : List Line) (same : without_steps A ≡ without_steps B) where
 pub steps_anywhere : StepsAnywhere
 steps_anywhere ordered script other lines same fits =
     carry script other (clock_of_run ordered script) (clock_of_run ordered other) lines (steps_carry script other same ordered lines) fits
-

@@ -1,15 +1,12 @@
 -- Subjects as values.
-use Rattle.std.proofs.Common.{◌≡◌, ℕ, suc, Bool, true, false, cond, List, [], ◌∷◌, ◌++◌, length, Option, Some, None, refl, sym, ap, ◌∙◌, append_assoc, arith}
-use Rattle.std.specs.Prelude.{filter, ◌+◌}
-use Rattle.std.proofs.lemmas.List.{length-append}
-use Rattle.std.proofs.lemmas.List.Elements.{filter-append}
+use Rattle.std.proofs.Common.{◌≡◌, true, Some, refl, sym, ap, ◌∙◌}
 use Rattle.zb_types.specs.declared.nodes.Node.{Node}
 use Rattle.zb_types.specs.declared.nodes.Node.TheVariants.{Server, Client, Manager, Cleaner, Mender}
 use Rattle.zb_types.specs.declared.nodes.Event.TheVariants.{Crash as CrashOf, Arm as ArmOf, Up as UpOf, Lose as LoseOf, Checkpoint as CheckpointOf}
 use Rattle.zb_types.specs.declared.lines.Line.{Line}
 use Rattle.zb_types.specs.declared.lines.Line.TheVariants.{Call as CallLine, Job as JobLine, Steps, StepTo, Event as EventLine}
 use Rattle.zb_types.specs.declared.lines.Job.TheVariants.{Clean, Rebuild}
-use Rattle.zb_claims.specs.Points.{Subject, calls, cleans, rebuilds, crashes, arms, ups, loses, checkpoints, same_node, same_subject, is_about, asked_of, subject_asked}
+use Rattle.zb_claims.specs.Points.{Subject, calls, cleans, rebuilds, crashes, arms, ups, loses, checkpoints, same_node, same_subject, is_about, subject_asked}
 use Rattle.zb_laws.proofs.Tests.{equal, equals}
 
 one_node : (a b : Node) → same_node a b ≡ true → a ≡ b

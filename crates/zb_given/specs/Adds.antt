@@ -17,7 +17,7 @@ use Rattle.zb_types.specs.Apply.{is_update, reply_to}
 use Rattle.zb_claims.specs.Points.{cleans, rebuilds, subject_of_told, has_line, tree_at}
 use Rattle.zb_claims.specs.Fits.{MayNotBuffer, BufferedFits, KeptFits}
 use Rattle.zb_given.specs.Given.{Given, script_of, FitGiven}
-use Rattle.zb_given.specs.Calls.{IsOpen, MayReply, LookedUp, IsLookedUp, tree_seen, IsWanted}
+use Rattle.zb_given.specs.Calls.{IsOpen, MayReply, LookedUp, IsLookedUp, tree_seen, IsOwed}
 
 -- the lines with this one of a call behind them fit
 abbrev pub FitWith : Given → List Outcome → ℕ → ℕ → Said → Type 0
@@ -56,12 +56,12 @@ AddsUnfinished = (given : Given) (lines : List Outcome) (client n : ℕ) (call :
 
 -- a line of a pass of the cleaner
 abbrev pub AddsClean : Type 0
-AddsClean = (given : Given) (lines : List Outcome) (pass : Pass) → FitGiven given lines → IsWanted given lines cleans → FitGiven given (lines ++ OfClean pass ∷ [])
+AddsClean = (given : Given) (lines : List Outcome) (pass : Pass) → FitGiven given lines → IsOwed given lines cleans → FitGiven given (lines ++ OfClean pass ∷ [])
 
 -- a line of a rebuild of this server
 abbrev pub AddsRebuild : Type 0
-AddsRebuild = (given : Given) (lines : List Outcome) (server : ServerId) (end : Mended) → FitGiven given lines → IsWanted given lines (rebuilds server.0) → FitGiven given (lines ++ OfRebuild server end ∷ [])
+AddsRebuild = (given : Given) (lines : List Outcome) (server : ServerId) (end : Mended) → FitGiven given lines → IsOwed given lines (rebuilds server.0) → FitGiven given (lines ++ OfRebuild server end ∷ [])
 
 -- a line of an event
 abbrev pub AddsEvent : Type 0
-AddsEvent = (given : Given) (lines : List Outcome) (event : Told) (answer : EventAnswer) → FitGiven given lines → IsWanted given lines (subject_of_told event) → FitGiven given (lines ++ OfEvent event answer ∷ [])
+AddsEvent = (given : Given) (lines : List Outcome) (event : Told) (answer : EventAnswer) → FitGiven given lines → IsOwed given lines (subject_of_told event) → FitGiven given (lines ++ OfEvent event answer ∷ [])

@@ -16,13 +16,14 @@ pub record IsOpen (given : Given) (lines : List Outcome) (client n : ℕ) (call 
   pub next : is_next lines client n ≡ true
   pub unended : has_final lines client n ≡ false
 
--- it may have its reply: the client's updates before it have ended, and the file manager isn't down by a crash that was
--- given before it
+-- It may have its reply: the client's updates before it have ended, and the file manager isn't down by a crash that was
+-- given before it.
 pub record MayReply (given : Given) (lines : List Outcome) (client n : ℕ) : Type 0 where
   pub earlier : are_ended (script_of given) lines client n ≡ true
   pub manager : is_before_crash (script_of given) lines (place_of given client n) ≡ true
 
--- a read at work that was looked up: its number among its client's calls, and its point, how many lines stood at the lookup
+-- A read at work that was looked up: its number among its client's calls, and its point, how many lines stood at the lookup.
+-- A client has one such read at most, and none while it has a batch at work, as when it is blocked.
 pub record LookedUp : Type 0 where
   pub number : ℕ
   pub at : ℕ
@@ -44,6 +45,6 @@ IsAtWork given lines client (Some read) = (call : Call) × IsLookedUp given line
 abbrev pub tree_seen : Given → List Outcome → LookedUp → Tree
 tree_seen given lines read = tree_at (script_of given) (take read.at lines)
 
--- of this job or event more were given than have their line
-abbrev pub IsWanted : Given → List Outcome → Subject → Type 0
-IsWanted given lines subject = told_of subject lines < asked_of subject (script_of given)
+-- a line of this job or event is owed: more were given than have theirs
+abbrev pub IsOwed : Given → List Outcome → Subject → Type 0
+IsOwed given lines subject = told_of subject lines < asked_of subject (script_of given)

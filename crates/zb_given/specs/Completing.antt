@@ -1,5 +1,5 @@
 -- Completeness by what was given: what the lines come to where nothing befalls the nodes.
-use Rattle.std.specs.Prelude.{◌≡◌, ◌⊎◌, ℕ, ◌-◌, ◌≤◌, Bool, true, false, List, [], map}
+use Rattle.std.specs.Prelude.{◌≡◌, ◌⊎◌, ℕ, ◌-◌, ◌≤◌, Bool, true, false, List}
 use Rattle.std.specs.List.{list_any, AllByRecursion}
 use Rattle.zb_types.specs.declared.geometry.Geometry.{Geometry}
 use Rattle.zb_types.specs.declared.lines.Line.{Line}

@@ -7,9 +7,8 @@ use Rattle.zb_types.specs.declared.lines.Outcome.{Outcome}
 use Rattle.zb_claims.specs.Points.{Subject, calls, asked_of, subject_asked, has_told, all_met}
 use Rattle.zb_claims.specs.Runs.{has_ended, all_ended}
 use Rattle.zb_given.specs.Given.{Item, Given, with_item, script_of}
-use Rattle.zb_given.specs.Gives.{without_steps, with_plus}
 
--- each that was given of this subject has its line, a call its first: so it is with the calls of a client that is idle
+-- Each that was given of this subject has its line, a call its first. So it is with the calls of a client that is idle.
 abbrev pub HaveLines : Given → List Outcome → Subject → Type 0
 HaveLines given lines subject = (n : ℕ) → 1 ≤ n → n ≤ asked_of subject (script_of given) → has_told lines subject n ≡ true
 
@@ -26,7 +25,7 @@ abbrev pub are_in_turn : List Line → List Outcome → ℕ → List Item → Bo
 are_in_turn script lines place [] = true
 are_in_turn script lines place (item ∷ items) = all_told (take item.at lines) (take place script) && are_in_turn script lines (suc place) items
 
--- one came after the other
+-- so were all: one came after the other
 abbrev pub IsInTurn : Given → List Outcome → Type 0
 IsInTurn given lines = are_in_turn (script_of given) lines 0 given.items ≡ true
 

@@ -1,7 +1,7 @@
 -- Worked rows: what their worlds were given, and how their scripts were.
 use Rattle.std.specs.Prelude.{ℕ, true, false, List, [], ◌∷◌, codes, None}
 use Rattle.zb_types.specs.declared.calls.Call.TheVariants.{Create, Write, Sync, Read, List as ListOf}
-use Rattle.zb_types.specs.declared.calls.Reply.TheVariants.{Made, Bytes, Names}
+use Rattle.zb_types.specs.declared.calls.Reply.TheVariants.{Made, Names}
 use Rattle.zb_types.specs.declared.nodes.Cause.TheVariants.{NoSpace}
 use Rattle.zb_types.specs.declared.nodes.Node.TheVariants.{Client}
 use Rattle.zb_types.specs.declared.nodes.Event.TheVariants.{Crash as CrashOf, Up as UpOf}
@@ -13,7 +13,7 @@ use Rattle.zb_types.specs.declared.lines.Said.TheVariants.{Reply as Replied, Buf
 use Rattle.zb_types.specs.declared.lines.Outcome.{Outcome}
 use Rattle.zb_types.specs.declared.lines.Outcome.TheVariants.{Call as OfCall, Clean as OfClean}
 use Rattle.zb_claims.specs.Fits.{FitLines}
-use Rattle.zb_claims.specs.Rows.{fid, hello_report, stale_report, two_script, two_report, dropped_script, dropped_report}
+use Rattle.zb_claims.specs.Rows.{fid, stale_report, two_script, two_report, dropped_script, dropped_report}
 use Rattle.zb_given.specs.Given.{Item, Given, none_given, with_item, with_finish, FitGiven}
 use Rattle.zb_given.specs.Gives.{Gives}
 use Rattle.zb_given.specs.Loops.{IsPast}

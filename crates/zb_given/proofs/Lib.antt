@@ -21,3 +21,4 @@ pub mod AheadLifting
 pub mod Rows
 pub mod LoopRun
 pub mod ReasonLifting
+pub mod Standing

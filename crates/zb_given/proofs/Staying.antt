@@ -229,7 +229,7 @@ lookup_stays given lines line at client read call l = record {
   after_own = l.after_own;
 }
 
-none_ends : (client n : ℕ) (more : List Outcome) → list_any (is_of_client client) more ≡ false → has_final more client n ≡ false
+pub none_ends : (client n : ℕ) (more : List Outcome) → list_any (is_of_client client) more ≡ false → has_final more client n ≡ false
 none_ends client n [] h = refl
 none_ends client n (OfCall c m said ∷ more) h = by_test (eqb client c) h (none_ends client n more)
   where

@@ -8,5 +8,6 @@ pub mod Loops
 pub mod Stays
 pub mod Lifts
 pub mod Completing
+pub mod Queues
 pub mod Reasoning
 pub mod Worked

@@ -10,7 +10,7 @@ use Rattle.zb_types.specs.declared.lines.Outcome.{Outcome}
 use Rattle.zb_types.specs.declared.lines.Outcome.TheVariants.{Call as OfCall, Clean as OfClean, Rebuild as OfRebuild, Event as OfEvent}
 use Rattle.zb_claims.specs.Points.{Subject, crashes, ups, asked_of, told_of, same_subject, subject_of, is_event, crash_from}
 use Rattle.zb_laws.proofs.Tests.{or_right, first_false, last_false}
-use Rattle.zb_given.specs.Stays.{NoCrash, CrashIsLater}
+use Rattle.zb_given.specs.Stays.{NoCrash, CallLeaves, CrashIsLater}
 
 up_is_no_crash : (line : Outcome) → is_event (ups Manager) line ≡ true → same_subject (crashes Manager) (subject_of line) ≡ false
 up_is_no_crash (OfCall client n said) h = refl
@@ -86,3 +86,7 @@ never_down n (line ∷ lines) h =
 
 pub no_crash : NoCrash
 no_crash script lines place none = ap (λ (k : ℕ). eqb k 0 || nat_lt (asked_of (crashes Manager) (take place script)) k) (never_down 0 lines none)
+
+-- a line of a call is none of a crash
+pub call_leaves_crashes : CallLeaves
+call_leaves_crashes script lines client n said place = ap (λ (k : ℕ). eqb k 0 || nat_lt (asked_of (crashes Manager) (take place script)) k) (crash_push 0 0 lines (OfCall client n said))

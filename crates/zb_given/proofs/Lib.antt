@@ -22,3 +22,5 @@ pub mod Rows
 pub mod LoopRun
 pub mod ReasonLifting
 pub mod Standing
+pub mod Batching
+pub mod HelloRun

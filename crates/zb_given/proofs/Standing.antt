@@ -1,10 +1,10 @@
 -- How the calls of a client stand.
-use Rattle.std.proofs.Common.{◌≡◌, ℕ, zero, suc, ◌+◌, ◌-◌, ◌<◌, ◌≤◌, max, Bool, true, false, not, cond, ◌&&◌, ◌||◌, eqb, List, [], ◌∷◌, ◌++◌, length, Option, Some, None, refl, sym, ap, subst, ◌∙◌, append_assoc, arith, inl, inr}
-use Rattle.std.specs.Prelude.{filter, nat_le, get_or, ◌⊎◌}
+use Rattle.std.proofs.Common.{◌≡◌, ℕ, zero, suc, ◌-◌, ◌<◌, ◌≤◌, max, Bool, true, false, not, cond, ◌&&◌, ◌||◌, eqb, List, [], ◌∷◌, ◌++◌, length, Option, Some, None, refl, sym, ap, subst, ◌∙◌, arith, inl, inr}
+use Rattle.std.specs.Prelude.{filter, nat_le, get_or}
 use Rattle.std.specs.List.{list_any, flat_map, AllByRecursion}
 use Rattle.std.proofs.lemmas.Bool.Decides.{nat_tests}
 use Rattle.std.proofs.lemmas.Grind.{flat_map-append}
-use Rattle.std.proofs.lemmas.List.{append-nil, length-append}
+use Rattle.std.proofs.lemmas.List.{append-nil}
 use Rattle.std.proofs.lemmas.Option.{slice_get-get_or, slice_get_within}
 use Rattle.std.proofs.lemmas.List.Elements.{filter-append}
 use Rattle.std.proofs.lemmas.List.Folds.{list_any-append}
@@ -12,8 +12,6 @@ use Rattle.zb_types.specs.declared.calls.Call.{Call}
 use Rattle.zb_types.specs.declared.lines.Line.{Line}
 use Rattle.zb_types.specs.declared.lines.Said.{Said}
 use Rattle.zb_types.specs.declared.lines.Said.TheVariants.{Reply as Replied, Buffered, Kept, Failed, Dropped, Unfinished}
-use Rattle.zb_types.specs.declared.lines.Told.{Told}
-use Rattle.zb_types.specs.declared.lines.Told.TheVariants.{Crash, Arm, Up, Lose, Checkpoint}
 use Rattle.zb_types.specs.declared.lines.Outcome.{Outcome}
 use Rattle.zb_types.specs.declared.lines.Outcome.TheVariants.{Call as OfCall, Clean as OfClean, Rebuild as OfRebuild, Event as OfEvent}
 use Rattle.zb_types.specs.Limits.{within, most_kept}
@@ -23,9 +21,8 @@ use Rattle.zb_claims.specs.Fits.{is_update_in, are_ended, is_next, WasFull, MayN
 use Rattle.zb_laws.proofs.Tests.{both, equal, equals, at_or_below, or_right, or_cases, first_false, last_false}
 use Rattle.zb_laws.proofs.Each.{each_weaker}
 use Rattle.zb_given.specs.Given.{Given, with_item, script_of, calls_of}
-use Rattle.zb_given.specs.Calls.{IsOpen}
 use Rattle.zb_given.specs.Queues.{is_among, RiseAbove, kept_numbers, last_without, CallsStand, StandFirst, StandGiven, StandOver, Buffers, Takes, KeepsFor, EndsKept, EndsQueued, IdleHasLines, NoneKeptHasLast}
-use Rattle.zb_given.proofs.Small.{no, on, all_push}
+use Rattle.zb_given.proofs.Small.{no, all_push}
 use Rattle.zb_given.proofs.Asking.{call_of_zero}
 use Rattle.zb_given.proofs.AllMet.{asked_of_append}
 use Rattle.zb_given.proofs.MoreGiving.{one_more}
@@ -181,7 +178,7 @@ kept_over lines more client none =
 without_none : (taken : ℕ) → last_without taken taken ≡ []
 without_none taken = ap (λ (b : Bool). cond b [] (taken ∷ [])) (equals taken)
 
-without_one : (lined : ℕ) → last_without (suc lined) lined ≡ suc lined ∷ []
+pub without_one : (lined : ℕ) → last_without (suc lined) lined ≡ suc lined ∷ []
 without_one lined = ap (λ (b : Bool). cond b [] (suc lined ∷ [])) (other lined)
   where
     other : (a : ℕ) → eqb a (suc a) ≡ false
@@ -198,7 +195,7 @@ rise_push low n (k ∷ kept) lt rise below = (rise.0, rise_push k n kept below.0
 within_no : (top n : ℕ) → top < n → within 1 top n ≡ false
 within_no top n lt = grind (arith, nat_tests)
 
-within_yes : (top n : ℕ) → 1 ≤ n → n ≤ top → within 1 top n ≡ true
+pub within_yes : (top n : ℕ) → 1 ≤ n → n ≤ top → within 1 top n ≡ true
 within_yes top n low high = grind (arith, nat_tests)
 
 next_of : (given : Given) (lines : List Outcome) (client : ℕ) (kept : List ℕ) (taken lined n : ℕ) → CallsStand given lines client kept taken lined → n ≤ suc lined → is_next lines client n ≡ true

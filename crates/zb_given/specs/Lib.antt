@@ -9,5 +9,6 @@ pub mod Stays
 pub mod Lifts
 pub mod Completing
 pub mod Queues
+pub mod Batches
 pub mod Reasoning
 pub mod Worked

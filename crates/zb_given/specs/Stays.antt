@@ -5,7 +5,9 @@ use Rattle.zb_types.specs.declared.calls.Call.{Call}
 use Rattle.zb_types.specs.declared.nodes.Node.TheVariants.{Manager}
 use Rattle.zb_types.specs.declared.lines.Line.{Line}
 use Rattle.zb_types.specs.declared.lines.Line.TheVariants.{Call as CallLine}
+use Rattle.zb_types.specs.declared.lines.Said.{Said}
 use Rattle.zb_types.specs.declared.lines.Outcome.{Outcome}
+use Rattle.zb_types.specs.declared.lines.Outcome.TheVariants.{Call as OfCall}
 use Rattle.zb_types.specs.Apply.{is_update}
 use Rattle.zb_claims.specs.Points.{calls, crashes, asked_of, told_of, call_of, ends, is_of_client, is_event, has_line, has_final, is_before_crash}
 use Rattle.zb_claims.specs.Fits.{are_ended, WasFull}
@@ -105,6 +107,10 @@ SeenOver = (given : Given) (lines more : List Outcome) (read : LookedUp) → rea
 -- a call may be replied to where the file manager never crashed
 abbrev pub NoCrash : Type 0
 NoCrash = (script : List Line) (lines : List Outcome) (place : ℕ) → list_any (is_event (crashes Manager)) lines ≡ false → is_before_crash script lines place ≡ true
+
+-- a line of a call changes nothing of that
+abbrev pub CallLeaves : Type 0
+CallLeaves = (script : List Line) (lines : List Outcome) (client n : ℕ) (said : Said) (place : ℕ) → is_before_crash script (lines ++ OfCall client n said ∷ []) place ≡ is_before_crash script lines place
 
 -- and behind another line, if each crash that was given before it has its line
 abbrev pub CrashIsLater : Type 0

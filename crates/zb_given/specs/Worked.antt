@@ -12,15 +12,31 @@ use Rattle.zb_types.specs.declared.lines.Line.TheVariants.{Call as CallLine, Job
 use Rattle.zb_types.specs.declared.lines.Said.TheVariants.{Reply as Replied, Buffered, Unfinished}
 use Rattle.zb_types.specs.declared.lines.Outcome.{Outcome}
 use Rattle.zb_types.specs.declared.lines.Outcome.TheVariants.{Call as OfCall, Clean as OfClean}
+use Rattle.zb_claims.specs.Points.{calls}
 use Rattle.zb_claims.specs.Fits.{FitLines}
-use Rattle.zb_claims.specs.Rows.{fid, stale_report, two_script, two_report, dropped_script, dropped_report}
+use Rattle.zb_claims.specs.Rows.{fid, hello_report, stale_report, two_script, two_report, dropped_script, dropped_report}
 use Rattle.zb_given.specs.Given.{Item, Given, none_given, with_item, with_finish, FitGiven}
 use Rattle.zb_given.specs.Gives.{Gives}
+use Rattle.zb_given.specs.Ends.{HaveLastLines}
 use Rattle.zb_given.specs.Loops.{IsPast}
+use Rattle.zb_given.specs.Queues.{CallsStand}
 
 -- an item with its point
 abbrev pub at_point : ℕ → Line → Item
 at_point at line = record { line = line; at = at }
+
+-- What the world of the row `hello` was given.
+abbrev pub hello_given : Given
+hello_given = record {
+  items = at_point 0 (CallLine true 1 (Create (codes "/a"))) ∷ at_point 1 (CallLine true 1 (Write (fid 1) 0 (codes "hello"))) ∷ at_point 2 (CallLine true 1 Sync) ∷ at_point 4 (CallLine true 1 (Read (fid 1) 0 5)) ∷ [];
+  finishes = [];
+}
+
+-- its lines fit that, and in the end each of the client's calls was taken, none is kept, and each has its last line
+pub record HelloLift : Type 0 where
+  pub given_fit : FitGiven hello_given hello_report
+  pub stand : CallsStand hello_given hello_report 1 [] 4 4
+  pub last : HaveLastLines hello_given hello_report (calls 1)
 
 -- Two clients write one block, with pluses and step lines.
 abbrev pub two_given : Given
@@ -108,13 +124,6 @@ late_given = record { items = at_point 0 (CallLine true 2 (Create (codes "/b")))
 pub record LateLift : Type 0 where
   pub given_fit : FitGiven late_given late_report
   pub fits : FitLines false late_script late_report
-
--- what the world of the row `hello` was given
-abbrev pub hello_given : Given
-hello_given = record {
-  items = at_point 0 (CallLine true 1 (Create (codes "/a"))) ∷ at_point 1 (CallLine true 1 (Write (fid 1) 0 (codes "hello"))) ∷ at_point 2 (CallLine true 1 Sync) ∷ at_point 4 (CallLine true 1 (Read (fid 1) 0 5)) ∷ [];
-  finishes = [];
-}
 
 -- These don't fit, or aren't given so.
 pub record WrongGiven : Type 0 where

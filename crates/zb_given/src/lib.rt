@@ -4,14 +4,17 @@
 #![tactic(auto)]
 
 mod adds;
+mod batches;
 mod completing;
 mod ends;
 mod lifts;
 mod loops;
+mod queues;
 mod stays;
 mod worked;
 
 pub use adds::{lines_of_calls_fit, lines_of_others_fit};
+pub use batches::several_lines_fit;
 pub use completing::completeness_is_that_of_the_script;
 pub use ends::{lines_by_subject, turns_go_on};
 pub use lifts::{
@@ -19,5 +22,6 @@ pub use lifts::{
     given_lines_tell_a_history, more_may_be_given, steps_stand_anywhere,
 };
 pub use loops::{loop_begins, loop_goes_from_line_to_line, steps_keep_the_loop};
+pub use queues::{calls_are_taken, calls_end, calls_stand, nothing_is_left};
 pub use stays::{calls_stay, crashes_come_later, lookups_stay, open_calls_stay};
 pub use worked::{rows_are_given, wrong_rows_are_not};

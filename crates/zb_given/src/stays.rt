@@ -1,4 +1,4 @@
-ghost use Rattle.zb_given.specs.Stays.{AtWorkOver, AtWorkStays, CallStays, CountsOwn, CrashIsLater, EndedOver, FullOver, LookupOver, LookupStays, LooksUp, NamesOwn, NextIsFresh, NoCrash, NoneIsAhead, OpenOver, OpenStays, SeenOver, SeenStays};
+ghost use Rattle.zb_given.specs.Stays.{AtWorkOver, AtWorkStays, CallLeaves, CallStays, CountsOwn, CrashIsLater, EndedOver, FullOver, LookupOver, LookupStays, LooksUp, NamesOwn, NextIsFresh, NoCrash, NoneIsAhead, OpenOver, OpenStays, SeenOver, SeenStays};
 
 /// A client's calls are numbered in the order in which they were given; the next one has the next number, which no line
 /// names yet; and what is given later leaves them where they are.
@@ -31,9 +31,10 @@ pub fn lookups_stay()
     ensures seen_over { SeenOver }
 {}
 
-/// A call may have its reply as far as crashes of the file manager go: where there was none, and behind any line if each
-/// crash that was given before the call has its own.
+/// A call may have its reply as far as crashes of the file manager go: where there was none; behind a line of a call where
+/// it might before; and behind any line if each crash that was given before the call has its own.
 pub fn crashes_come_later()
     ensures none { NoCrash }
+    ensures call { CallLeaves }
     ensures later { CrashIsLater }
 {}

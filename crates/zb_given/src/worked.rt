@@ -1,8 +1,10 @@
-ghost use Rattle.zb_given.specs.Worked.{DroppedLift, FullLift, LateLift, TwoLift, WrongGiven};
+ghost use Rattle.zb_given.specs.Worked.{DroppedLift, FullLift, HelloLift, LateLift, TwoLift, WrongGiven};
 
-/// Worked rows from what their worlds were given to the script: two clients with pluses and step lines; a client that
-/// crashes, step by step through a program's loop; a pass and an update without space; a read that is answered late.
+/// Worked rows: one client's calls as they are taken, kept and answered; and from what their worlds were given to the
+/// script two clients with pluses and step lines; a client that crashes, step by step through a program's loop; a pass and
+/// an update without space; a read that is answered late.
 pub fn rows_are_given()
+    ensures hello { HelloLift }
     ensures two { TwoLift }
     ensures dropped { DroppedLift }
     ensures full { FullLift }

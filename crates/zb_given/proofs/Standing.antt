@@ -21,7 +21,7 @@ use Rattle.zb_claims.specs.Fits.{is_update_in, are_ended, is_next, WasFull, MayN
 use Rattle.zb_laws.proofs.Tests.{both, equal, equals, at_or_below, or_right, or_cases, first_false, last_false}
 use Rattle.zb_laws.proofs.Each.{each_weaker}
 use Rattle.zb_given.specs.Given.{Given, with_item, script_of, calls_of}
-use Rattle.zb_given.specs.Queues.{is_among, RiseAbove, kept_numbers, last_without, CallsStand, StandFirst, StandGiven, StandOver, Buffers, Takes, KeepsFor, EndsKept, EndsQueued, IdleHasLines, NoneKeptHasLast}
+use Rattle.zb_given.specs.Queues.{is_among, RiseAbove, kept_numbers, last_without, CallsStand, StandFirst, StandGiven, StandFinish, StandOver, Buffers, Takes, KeepsFor, EndsKept, EndsQueued, IdleHasLines, NoneKeptHasLast}
 use Rattle.zb_given.proofs.Small.{no, all_push}
 use Rattle.zb_given.proofs.Asking.{call_of_zero}
 use Rattle.zb_given.proofs.AllMet.{asked_of_append}
@@ -259,6 +259,20 @@ stand_given given lines line at client kept taken lined s = record {
 
     stays : (n : ℕ) → is_update_in (call_of (script_of given) client n) ≡ true → is_update_in (call_of (script_of (with_item given line at)) client n) ≡ true
     stays n h = by_call n (call_of (script_of given) client n) refl h
+
+pub stand_finish : StandFinish
+stand_finish given lines at client kept taken lined s = record {
+  named = s.named;
+  ended = s.ended;
+  kept_are = s.kept_are;
+  rise = s.rise;
+  below = s.below;
+  updates = s.updates;
+  count = s.count;
+  few = s.few;
+  many = s.many;
+  full = s.full;
+}
 
 -- what may not be buffered may not be behind more lines
 unbuffered_over : (lines more : List Outcome) (client n : ℕ) (call : Call) → MayNotBuffer lines client n call → MayNotBuffer (lines ++ more) client n call

@@ -20,7 +20,7 @@ use Rattle.zb_claims.specs.Fits.{is_update_in, are_ended}
 use Rattle.zb_laws.proofs.Tests.{equal, equals, both, first_true, last_true, any_more}
 use Rattle.zb_given.specs.Given.{Item, Given, with_item, script_of, point, place_in, place_of, call_by, calls_of, clock_of_given}
 use Rattle.zb_given.specs.Gives.{with_plus, about}
-use Rattle.zb_given.specs.Stays.{NamesOwn, CountsOwn, IsFresh, NextIsFresh, NoneIsAhead, CallStays, OpenStays, OpenOver, EndedOver, FullOver, LooksUp, LookupStays, LookupOver, AtWorkStays, AtWorkOver, SeenStays, SeenOver}
+use Rattle.zb_given.specs.Stays.{NamesOwn, CountsOwn, IsFresh, NextIsFresh, NoneIsAhead, CallStays, OpenStays, OpenFinish, OpenOver, EndedOver, FullOver, LooksUp, LookupStays, LookupOver, AtWorkStays, AtWorkFinish, AtWorkOver, SeenStays, SeenOver}
 use Rattle.zb_given.proofs.Small.{get_last, all_front}
 use Rattle.zb_given.proofs.Asking.{line_call, call_of_about, asked_more}
 use Rattle.zb_given.proofs.Parts.{asks_call, splits, within, one_part}
@@ -177,6 +177,9 @@ none_is_ahead given lines client n g lt =
 pub open_stays : OpenStays
 open_stays given lines line at client n call o = record { is = (call_stays given line at client n call o.is).is; next = o.next; unended = o.unended }
 
+pub open_finish : OpenFinish
+open_finish given lines at client n call o = record { is = o.is; next = o.next; unended = o.unended }
+
 or_more : (a b c : Bool) → (b ≡ true → c ≡ true) → (a || b) ≡ true → (a || c) ≡ true
 or_more true b c f h = refl
 or_more false b c f h = f h
@@ -259,6 +262,12 @@ lookup_over given lines more client read call none l = record {
 pub at_work_stays : AtWorkStays
 at_work_stays given lines line at client None is = tt
 at_work_stays given lines line at client (Some read) is = (is.0, lookup_stays given lines line at client read is.0 is.1)
+
+pub at_work_finish : AtWorkFinish
+at_work_finish given lines at client None is = tt
+at_work_finish given lines at client (Some read) is =
+    let l = is.1 in
+    (is.0, record { is_open = open_finish given lines at client read.number is.0 l.is_open; is_read = l.is_read; stood = l.stood; after_given = l.after_given; after_own = l.after_own })
 
 pub at_work_over : AtWorkOver
 at_work_over given lines more client None none is = tt

@@ -12,7 +12,7 @@ use Rattle.zb_types.specs.Limits.{within, most_kept}
 use Rattle.zb_types.specs.Apply.{is_update, is_bufferable}
 use Rattle.zb_claims.specs.Points.{calls, call_of, is_final, has_line, has_final, kept_in, is_of_client}
 use Rattle.zb_claims.specs.Fits.{is_update_in, are_ended, MayNotBuffer, BufferedFits, KeptFits}
-use Rattle.zb_given.specs.Given.{Given, none_given, with_item, script_of, calls_of}
+use Rattle.zb_given.specs.Given.{Given, none_given, with_item, with_finish, script_of, calls_of}
 use Rattle.zb_given.specs.Calls.{IsOpen}
 use Rattle.zb_given.specs.Ends.{HaveLines, HaveLastLines}
 
@@ -57,6 +57,10 @@ StandFirst = (client : ℕ) → CallsStand none_given [] client [] 0 0
 -- more is given
 abbrev pub StandGiven : Type 0
 StandGiven = (given : Given) (lines : List Outcome) (line : Line) (at client : ℕ) (kept : List ℕ) (taken lined : ℕ) → CallsStand given lines client kept taken lined → CallsStand (with_item given line at) lines client kept taken lined
+
+-- a finish begins
+abbrev pub StandFinish : Type 0
+StandFinish = (given : Given) (lines : List Outcome) (at client : ℕ) (kept : List ℕ) (taken lined : ℕ) → CallsStand given lines client kept taken lined → CallsStand (with_finish given at) lines client kept taken lined
 
 -- lines come of which none is the client's
 abbrev pub StandOver : Type 0

@@ -11,7 +11,7 @@ use Rattle.zb_types.specs.declared.lines.Outcome.TheVariants.{Call as OfCall}
 use Rattle.zb_types.specs.Apply.{is_update}
 use Rattle.zb_claims.specs.Points.{calls, crashes, asked_of, told_of, call_of, ends, is_of_client, is_event, has_line, has_final, is_before_crash}
 use Rattle.zb_claims.specs.Fits.{are_ended, WasFull}
-use Rattle.zb_given.specs.Given.{Given, with_item, script_of, place_of, point_of, calls_of, FitGiven}
+use Rattle.zb_given.specs.Given.{Given, with_item, with_finish, script_of, place_of, point_of, calls_of, FitGiven}
 use Rattle.zb_given.specs.Calls.{IsOpen, LookedUp, IsLookedUp, IsAtWork, tree_seen}
 
 -- Calls.
@@ -60,6 +60,10 @@ CallStays = (given : Given) (line : Line) (at client n : ℕ) (call : Call) → 
 abbrev pub OpenStays : Type 0
 OpenStays = (given : Given) (lines : List Outcome) (line : Line) (at client n : ℕ) (call : Call) → IsOpen given lines client n call → IsOpen (with_item given line at) lines client n call
 
+-- and where a finish begins
+abbrev pub OpenFinish : Type 0
+OpenFinish = (given : Given) (lines : List Outcome) (at client n : ℕ) (call : Call) → IsOpen given lines client n call → IsOpen (with_finish given at) lines client n call
+
 -- and where lines come of which none is its final one
 abbrev pub OpenOver : Type 0
 OpenOver = (given : Given) (lines more : List Outcome) (client n : ℕ) (call : Call) → list_any (ends client n) more ≡ false → IsOpen given lines client n call → IsOpen given (lines ++ more) client n call
@@ -89,6 +93,10 @@ LookupOver = (given : Given) (lines more : List Outcome) (client : ℕ) (read : 
 -- so it is with a client's read at work
 abbrev pub AtWorkStays : Type 0
 AtWorkStays = (given : Given) (lines : List Outcome) (line : Line) (at client : ℕ) (read : Option LookedUp) → IsAtWork given lines client read → IsAtWork (with_item given line at) lines client read
+
+-- at a finish
+abbrev pub AtWorkFinish : Type 0
+AtWorkFinish = (given : Given) (lines : List Outcome) (at client : ℕ) (read : Option LookedUp) → IsAtWork given lines client read → IsAtWork (with_finish given at) lines client read
 
 -- over the lines of others
 abbrev pub AtWorkOver : Type 0

@@ -1,9 +1,11 @@
-ghost use Rattle.zb_given.specs.Queues.{Buffers, EndsKept, EndsQueued, IdleHasLines, KeepsFor, NoneKeptHasLast, StandFirst, StandGiven, StandOver, Takes};
+ghost use Rattle.zb_given.specs.Queues.{Buffers, EndsKept, EndsQueued, IdleHasLines, KeepsFor, NoneKeptHasLast, StandFinish, StandFirst, StandGiven, StandOver, Takes};
 
-/// A client's calls stand so at the start, where more is given, and behind the lines of others.
+/// A client's calls stand at the start, and where they stood where more is given, where a finish begins, and behind the
+/// lines of others.
 pub fn calls_stand()
     ensures first { StandFirst }
     ensures given { StandGiven }
+    ensures finish { StandFinish }
     ensures over { StandOver }
 {}
 

@@ -56,7 +56,7 @@ one_list f at n (e ∷ es) [] end stop h k gone none = absurd (none e (subst (λ
 one_list f at n (e ∷ es) (d ∷ ds) end stop h k gone none =
     let same = same_entry f at n e d h.0 k.0 in
     let others = one_list f (at + size_of e) (n + 1) es ds end stop h.1 (subst (λ (x : Entry). EntriesStand f (at + size_of x) (n + 1) ds stop) (sym same) k.1)
-        (λ x s. gone x (subst (λ (m : ℕ). EntryStands f end m x) (omega arith) s)) (λ x s. none x (subst (λ (m : ℕ). EntryStands f stop m x) (omega arith) s)) in
+    (λ x s. gone x (subst (λ (m : ℕ). EntryStands f end m x) (omega arith) s)) (λ x s. none x (subst (λ (m : ℕ). EntryStands f stop m x) (omega arith) s)) in
     (λ i. same i ∷ others.0 i, others.1)
 
 pub says_one : SaysOne

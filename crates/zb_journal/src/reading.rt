@@ -2,6 +2,7 @@ ghost use Rattle.std.specs.Prelude.{◌≡◌, ◌≤◌, ◌<◌, ◌+◌, ◌*
 ghost use Rattle.std.specs.List.{flat_map, AllByRecursion};
 ghost use Rattle.std.specs.Option.{option_map};
 ghost use Rattle.zb_outside.specs.Counts.{Touches};
+ghost use Rattle.zb_outside.specs.Ranges.{Reads};
 ghost use Rattle.zb_outside.specs.Runs.{Held};
 ghost use Rattle.zb_numbers.specs.Numbers.{IsBelow};
 ghost use Rattle.zb_journal.specs.Spelling.{fields_text, piece_text, size_of, IsPiece, IsFields};
@@ -65,6 +66,7 @@ fn head_at(bytes: &[u8], place: u32) -> Option<(Fields, u64, &[u8])>
 fn begins(bytes: &[u8], journal: &Journal) -> bool
     requires size { length bytes.now ≡ 65536 }
     requires place { journal.now.place ≤ 65536 }
+    requires number { journal.now.number < 2 ^ 64 }
     ensures { IsTrue result ↔ Begins (slice_index bytes.now) journal.now.place journal.now.number }
 {
     let Some((_, number, _)) = head_at(bytes, journal.place) else {
@@ -111,6 +113,7 @@ fn read_pieces(alloc: Global, count: u16, bytes: &[u8]) -> Mem<PieceList>
 fn entry_at(alloc: Global, bytes: &[u8], journal: &Journal) -> Result<Entry, JournalFault>
     requires size { length bytes.now ≡ 65536 }
     requires place { journal.now.place ≤ 65536 }
+    requires number { journal.now.number < 2 ^ 64 }
     requires begins { Begins (slice_index bytes.now) journal.now.place journal.now.number }
     ensures found { IfOk result (λ entry. EntryStands (slice_index bytes.now) journal.now.place journal.now.number entry) }
     ensures place { (place : ℕ) → IsErrOf result (fault.Bad place) → place ≡ journal.now.place }
@@ -160,6 +163,27 @@ fn read_all(alloc: Global, bytes: &[u8], first: u64) -> Result<(Journal, EntryLi
     Ok((journal, entries))
 }
 
+// So many bytes of platter 0, from a place on.
+fn read_bytes<B: Bay>(
+    alloc: Global,
+    bay: &mut B,
+    place: u64,
+    len: usize,
+) -> Result<Vec<u8>, JournalFault>
+    requires range { place + len ≤ 2 ^ 63 }
+    ensures told { IsTrue B.tells → Held 0 (B.meaning bay.old) (B.meaning bay.new) }
+    ensures read { IsTrue B.tells → IfOk result (λ bytes. Reads ((B.meaning bay.old).now.seen 0) place bytes.items) }
+    ensures size { IfOk result (λ bytes. length bytes.items ≡ len) }
+    ensures bad { (place : ℕ) → IsErrOf result (fault.Bad place) → ⊥ }
+    ensures full { (place : ℕ) → IsErrOf result (fault.Full place) → ⊥ }
+    ensures worn { IsErrOf result fault.Worn → ⊥ }
+    ensures touches { Touches B.counts B.follows 0 0 (is_stopped result) bay.old bay.new }
+{
+    let mut bytes = vec![in alloc; 0; len]?;
+    bay.read_at(0, place, bytes.as_mut_slice())?;
+    Ok(bytes)
+}
+
 /// The entries of the journal on platter 0 from the number `first` on, which is at most 2^48, and where it goes on. It
 /// takes any bytes, and its time grows with the entries alone. With the journal that it gives, `append` goes on where
 /// they end.
@@ -180,7 +204,6 @@ pub fn entries<B: Bay>(
     ensures worn { IsErrOf result fault.Worn → ⊥ }
     ensures touches { Touches B.counts B.follows 0 0 (is_stopped result) bay.old bay.new }
 {
-    let mut bytes = vec![in alloc; 0; ROOM as usize]?;
-    bay.read_at(0, START, bytes.as_mut_slice())?;
+    let bytes = read_bytes(alloc, bay, START, ROOM as usize)?;
     read_all(alloc, bytes.as_slice(), first)
 }

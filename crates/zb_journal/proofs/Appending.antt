@@ -1,5 +1,5 @@
 -- What the bytes of an entry, put where a journal ends, make of it.
-use Rattle.std.proofs.Common.{◌≡◌, ◌⊎◌, inl, inr, ⊎_elim, ℕ, zero, suc, ◌+◌, ◌-◌, ◌<◌, ◌≤◌, List, [], ◌∷◌, ◌++◌, length, slice_index, Result, Ok, Err, IsErr, OnOk, refl, sym, ◌∙◌, ap, subst, arith, length-append}
+use Rattle.std.proofs.Common.{◌≡◌, ◌⊎◌, inl, inr, ⊎_elim, ℕ, zero, suc, ◌+◌, ◌-◌, ◌<◌, ◌≤◌, List, [], ◌∷◌, ◌++◌, length, slice_index, Result, Ok, Err, IsErr, refl, sym, ◌∙◌, ap, subst, arith, length-append}
 use Rattle.std.proofs.lemmas.List.{get_or_append_left, get_or-append_right}
 use Rattle.std.proofs.lemmas.Bool.{cases_lt}
 use Rattle.zb_entries.specs.declared.entry.Entry.{Entry}
@@ -9,7 +9,7 @@ use Rattle.zb_outside.specs.Runs.{Run}
 use Rattle.zb_outside.proofs.Runs.{weaker_run, outside_wider}
 use Rattle.zb_journal.specs.declared.journal.Journal.{Journal}
 use Rattle.zb_journal.specs.Spelling.{IsEntry, size_of, body_text, entry_text}
-use Rattle.zb_journal.specs.Journal.{journal_of, Begins, EntriesStand, Says}
+use Rattle.zb_journal.specs.Journal.{journal_of, EntriesStand, Says}
 use Rattle.zb_journal.specs.Putting.{PutReady, IsPut, Putting, PutTold}
 use Rattle.zb_journal.specs.Append.{AppendReady, FormerOrLonger, AppendTold}
 use Rattle.zb_journal.proofs.Texts.{length-body}

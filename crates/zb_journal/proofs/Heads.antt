@@ -1,15 +1,15 @@
 -- What is found where an entry is read.
 use Rattle.std.proofs.lemmas.Bool.Decides.{nat_tests}
-use Rattle.std.proofs.Common.{◌≡◌, ◌==◌, true, ℕ, zero, suc, ◌+◌, ◌*◌, ◌<◌, ◌≤◌, ◌^◌, List, [], ◌∷◌, ◌++◌, length, slice_index, drop, Option, None, Some, Result, Ok, Err, IfOk, IsErrOf, false, refl, sym, ◌∙◌, ap, subst, arith, append_assoc, length-append, length-drop}
-use Rattle.std.proofs.lemmas.List.{get_or_append_left, get_or-drop}
+use Rattle.std.proofs.Common.{◌≡◌, ◌==◌, true, ℕ, zero, suc, ◌+◌, ◌*◌, ◌<◌, ◌≤◌, ◌^◌, List, [], ◌∷◌, ◌++◌, length, slice_index, drop, None, Result, Ok, Err, IfOk, IsErrOf, false, refl, sym, ◌∙◌, ap, subst, arith, append_assoc, length-append, length-drop}
+use Rattle.std.proofs.lemmas.List.{get_or_append_left}
 use Rattle.std.specs.List.{flat_map, AllByRecursion}
-use Rattle.zb_numbers.specs.Numbers.{number_text, IsBelow}
+use Rattle.zb_numbers.specs.Numbers.{number_text}
 use Rattle.zb_numbers.proofs.Digits.{length-number_text}
 use Rattle.zb_numbers.proofs.Many.{many_once}
 use Rattle.zb_types.specs.declared.ids.Piece.{Piece}
 use Rattle.zb_entries.specs.declared.entry.Entry.{Entry}
 use Rattle.zb_journal.specs.declared.fields.Fields.{Fields}
-use Rattle.zb_journal.specs.Spelling.{IsPiece, IsFields, IsNamed, pieces_of, size_of, fields_of, fields_text, piece_text, body_text, entry_text}
+use Rattle.zb_journal.specs.Spelling.{IsPiece, IsFields, IsNamed, pieces_of, fields_of, fields_text, piece_text, body_text, entry_text}
 use Rattle.zb_outside.specs.Meaning.{Meaning}
 use Rattle.zb_outside.specs.Platters.{ReadTold}
 use Rattle.zb_outside.specs.Ranges.{Reads}

@@ -1,19 +1,17 @@
 -- An image says one journal.
-use Rattle.std.proofs.Common.{◌≡◌, ℕ, zero, suc, ◌+◌, ◌<◌, ◌≤◌, ◌^◌, List, [], ◌∷◌, ◌++◌, length, slice_index, refl, sym, ◌∙◌, ap, subst, arith, append_assoc, length-append}
+use Rattle.std.proofs.Common.{◌≡◌, ℕ, ◌+◌, ◌<◌, ◌^◌, List, [], ◌∷◌, ◌++◌, length, refl, sym, ◌∙◌, ap, subst, arith, length-append}
 use Rattle.std.proofs.lemmas.List.{get_or_append_left}
 use Rattle.std.specs.List.{flat_map}
-use Rattle.zb_numbers.specs.Numbers.{number_text}
 use Rattle.zb_numbers.proofs.Digits.{length-number_text}
 use Rattle.zb_numbers.proofs.Many.{many_once}
 use Rattle.zb_cell.specs.Cell.{window}
 use Rattle.zb_cell.proofs.Values.{window_is}
-use Rattle.zb_types.specs.declared.ids.Piece.{Piece}
 use Rattle.zb_entries.specs.declared.entry.Entry.{Entry}
 use Rattle.zb_journal.specs.declared.fields.Fields.{Fields}
-use Rattle.zb_journal.specs.Spelling.{IsPiece, pieces_of, size_of, fields_of, fields_text, piece_text, body_text, entry_text}
-use Rattle.zb_journal.specs.Journal.{journal_of, Stands, Begins, EntryStands, EntriesStand, Says, IsBadAt}
+use Rattle.zb_journal.specs.Spelling.{IsPiece, pieces_of, size_of, fields_of, fields_text, piece_text, entry_text}
+use Rattle.zb_journal.specs.Journal.{journal_of, Stands, Begins, EntryStands, EntriesStand}
 use Rattle.zb_journal.specs.Laws.{SaysOne, BadOnce, SaysNoBad, CutSays}
-use Rattle.zb_journal.proofs.Texts.{length-fields, length-entry, counted, number_in, same_number, piece_once, fields_once, entry_once}
+use Rattle.zb_journal.proofs.Texts.{length-fields, length-entry, counted, same_number, piece_once, fields_once, entry_once}
 use Rattle.zb_journal.proofs.Standing.{entry_begins}
 
 -- bytes that stand are those of the range

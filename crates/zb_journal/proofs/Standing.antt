@@ -1,11 +1,11 @@
 -- Entries that stand one behind the other, where some of the bytes are the same.
-use Rattle.std.proofs.Common.{◌≡◌, ℕ, zero, suc, ◌+◌, ◌*◌, ◌<◌, ◌≤◌, ◌^◌, List, [], ◌∷◌, ◌++◌, length, slice_index, refl, sym, ◌∙◌, ap, subst, arith, length-append}
+use Rattle.std.proofs.Common.{◌≡◌, ℕ, suc, ◌+◌, ◌*◌, ◌<◌, ◌≤◌, List, [], ◌∷◌, ◌++◌, length, slice_index, sym, ◌∙◌, ap, subst, arith}
 use Rattle.zb_numbers.specs.Numbers.{number_text}
 use Rattle.zb_numbers.proofs.Digits.{length-number_text}
 use Rattle.std.specs.List.{flat_map}
 use Rattle.zb_entries.specs.declared.entry.Entry.{Entry}
 use Rattle.zb_journal.specs.Spelling.{pieces_of, size_of, fields_of, piece_text, entry_text}
-use Rattle.zb_journal.specs.Journal.{journal_of, Stands, Begins, EntryStands, EntriesStand, HasEntries, Says}
+use Rattle.zb_journal.specs.Journal.{journal_of, Stands, Begins, EntryStands, EntriesStand, HasEntries}
 use Rattle.zb_journal.specs.Laws.{DependsOnItsBytes}
 use Rattle.zb_journal.proofs.Texts.{length-entry, number_in}
 

@@ -1,13 +1,13 @@
 -- How many bytes an entry takes, and that they determine it.
-use Rattle.std.proofs.Common.{◌≡◌, ℕ, suc, ◌+◌, ◌*◌, ◌<◌, ◌≤◌, ◌^◌, List, [], ◌∷◌, ◌++◌, length, slice_index, refl, sym, ◌∙◌, ap, arith, append_assoc, length-append}
+use Rattle.std.proofs.Common.{◌≡◌, ℕ, suc, ◌+◌, ◌*◌, ◌<◌, ◌^◌, List, [], ◌∷◌, ◌++◌, length, slice_index, refl, sym, ◌∙◌, ap, arith, append_assoc, length-append}
 use Rattle.std.proofs.lemmas.List.{append_cancel_left, get_or_append_left, get_or-append_right}
-use Rattle.std.specs.List.{flat_map, AllByRecursion}
+use Rattle.std.specs.List.{flat_map}
 use Rattle.zb_types.specs.declared.ids.Piece.{Piece}
 use Rattle.zb_types.specs.declared.nodes.State.{State}
 use Rattle.zb_types.specs.declared.nodes.State.TheVariants.{Whole, Out, Mending}
 use Rattle.zb_entries.specs.declared.entry.Entry.{Entry}
 use Rattle.zb_entries.specs.declared.entry.Entry.TheVariants.{Attach, Commit, Mark, Retire}
-use Rattle.zb_numbers.specs.Numbers.{number_text, IsBelow}
+use Rattle.zb_numbers.specs.Numbers.{number_text}
 use Rattle.zb_numbers.specs.Fronts.{IsPrefixFree}
 use Rattle.zb_numbers.proofs.Digits.{number_once, length-number_text}
 use Rattle.zb_cell.specs.Cell.{window}

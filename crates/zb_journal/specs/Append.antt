@@ -1,5 +1,5 @@
 -- What an append does, moment by moment.
-use Rattle.std.specs.Prelude.{◌≡◌, ◌⊎◌, ℕ, ◌+◌, ◌≤◌, List, [], ◌∷◌, ◌++◌, length, slice_index, Result, OnOk}
+use Rattle.std.specs.Prelude.{◌≡◌, ◌⊎◌, ℕ, ◌+◌, ◌≤◌, List, [], ◌∷◌, ◌++◌, length, Result, OnOk}
 use Rattle.zb_entries.specs.declared.entry.Entry.{Entry}
 use Rattle.zb_outside.specs.Meaning.{Meaning, Standing}
 use Rattle.zb_outside.specs.Ranges.{SameBeside}

@@ -1,4 +1,4 @@
-use Rattle.std.proofs.Common.{◌≡◌, ◌==◌, slice_index, refl, arith}
+use Rattle.std.proofs.Common.{◌==◌, slice_index}
 use Rattle.std.proofs.lemmas.Result.{on_ok_weaker}
 use Rattle.zb_cell.proofs.Steps.{no_writes, all_writes}
 use Rattle.zb_outside.proofs.Runs.{run_spares, others_then}

@@ -1,5 +1,3 @@
-use Rattle.std.proofs.Common.{arith}
-use Rattle.std.proofs.lemmas.Bool.Decides.{nat_tests}
 use Rattle.zb_journal.proofs.Heads.{own_is, does_begin, are_same, say_same}
 use Rattle.zb_journal.proofs.reading.begins.Goals as goal
 

@@ -1,4 +1,4 @@
-use Rattle.std.proofs.Common.{◌≡◌, ◌∙◌, ℕ, length, ap, arith}
+use Rattle.std.proofs.Common.{◌∙◌, ℕ, length, ap, arith}
 use Rattle.zb_outside.proofs.Touching.{touches_less}
 use Rattle.zb_journal.proofs.Heads.{to_says, to_bad, reads_as, never_stopped}
 use Rattle.zb_journal.proofs.reading.entries.Goals as goal

@@ -1,4 +1,4 @@
-use Rattle.std.proofs.Common.{◌≡◌, ◌≤◌, ◌*◌, ℕ, length, drop, arith, length-drop}
+use Rattle.std.proofs.Common.{◌*◌, arith, length-drop}
 use Rattle.zb_journal.proofs.Heads.{own_is, entry_found, none_fits, none_known}
 use Rattle.zb_journal.proofs.reading.entry_at.Goals as goal
 

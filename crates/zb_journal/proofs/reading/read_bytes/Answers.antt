@@ -1,4 +1,3 @@
-use Rattle.zb_outside.specs.Platters.{ReadTold}
 use Rattle.zb_journal.proofs.Heads.{held}
 use Rattle.zb_journal.proofs.reading.read_bytes.Goals as goal
 

@@ -1,4 +1,4 @@
-use Rattle.std.proofs.Common.{◌≡◌, ◌∙◌, ◌+◌, ◌≤◌, ℕ, List, length, ap, arith}
+use Rattle.std.proofs.Common.{◌∙◌, ◌+◌, ◌≤◌, ℕ, length, ap, arith}
 use Rattle.zb_types.specs.declared.ids.Piece.{Piece}
 use Rattle.zb_journal.specs.Spelling.{size_of}
 use Rattle.zb_journal.proofs.Appending.{Appends, append_failed, length-put, may_put, to_put, is_longer, is_shut}

@@ -1,21 +1,21 @@
 -- What the writes of a slot's pages leave, and the root cell behind them.
-use Rattle.std.proofs.Common.{◌≡◌, ◌≢◌, ◌⊎◌, inl, inr, ⊎_elim, ℕ, ◌+◌, ◌*◌, ◌<◌, ◌≤◌, ◌==◌, if◌then◌else◌, List, ◌++◌, length, slice_index, take, drop, min, ◌-◌, Result, Ok, Err, IsErr, OnOk, Some, refl, sym, ◌∙◌, ap, subst, arith}
+use Rattle.std.proofs.Common.{◌≡◌, inl, inr, ⊎_elim, ℕ, ◌+◌, ◌*◌, ◌<◌, ◌≤◌, ◌^◌, ◌==◌, if◌then◌else◌, List, ◌++◌, length, slice_index, take, drop, min, ◌-◌, Result, Ok, Err, IsErr, Some, refl, sym, ◌∙◌, ap, subst, arith}
 use Rattle.std.proofs.lemmas.Bool.{cases_lt}
 use Rattle.std.proofs.lemmas.List.{get_or_append_left, get_or-drop, take-append-drop}
 use Rattle.std.proofs.lemmas.Result.{on_ok_weaker}
 use Rattle.zb_outside.specs.Meaning.{Meaning}
+use Rattle.zb_outside.specs.Counts.{raised_by}
 use Rattle.zb_outside.specs.Platters.{WriteTold, SyncTold}
 use Rattle.zb_outside.specs.Ranges.{Torn, Written}
 use Rattle.zb_outside.specs.Runs.{Run, IsSettled}
-use Rattle.zb_outside.proofs.Runs.{started, then_run, then_call}
+use Rattle.zb_outside.proofs.Runs.{started, then_run, then_call, weaker_run}
 use Rattle.zb_cell.specs.Cell.{bytes_at, value, copy_for, writes_for}
-use Rattle.zb_cell.specs.Set.{SetTold}
-use Rattle.zb_cell.specs.Set.{FormerOrNew} as cell
+use Rattle.zb_cell.specs.Set.{SetTold, FormerOrNew as CellFormerOrNew}
 use Rattle.zb_cell.proofs.Values.{value_ext}
 use Rattle.zb_cell.proofs.Steps.{copy_ext, copy_low}
 use Rattle.zb_ckpt.specs.declared.root.Root.{Root}
 use Rattle.zb_ckpt.specs.Root.{IsRoot, root_text}
-use Rattle.zb_ckpt.specs.Says.{place_of, BytesStand, Reaches, Says, Holds}
+use Rattle.zb_ckpt.specs.Says.{place_of, BytesStand, Reaches, Holds}
 use Rattle.zb_ckpt.specs.Write.{other_slot, next_root, KeepsSlot, KeepsFormer, FormerOrNew, WriteTold as CheckpointTold, FillTold, FillSyncedTold, StandUpTo}
 use Rattle.zb_ckpt.proofs.Places.{page_at, place_at, place_below, place_apart, place_high, other_low, other_apart, other_twice}
 
@@ -139,7 +139,7 @@ module _ (root : Root) (bytes s : List ℕ) (long : 128 ≤ length s) where
   }
 
   -- the cell is set once the bytes stand
-  pub setting : (d c : List ℕ) → IsRoot (next_root root bytes) → KeepsSlot (other_slot slot) s d → BytesStand d slot bytes → Reaches d slot bytes → cell.FormerOrNew 0 (root_text (next_root root bytes)) d c → FormerOrNew root.slot (next_root root bytes) bytes s c
+  pub setting : (d c : List ℕ) → IsRoot (next_root root bytes) → KeepsSlot (other_slot slot) s d → BytesStand d slot bytes → Reaches d slot bytes → CellFormerOrNew 0 (root_text (next_root root bytes)) d c → FormerOrNew root.slot (next_root root bytes) bytes s c
   setting d c is k stand reaches h = record {
     no_shorter = omega (arith, k.no_shorter, h.outside.same_length);
     between = λ i above below lt. h.outside.same i (inr (omega arith)) ∙ k.front i below lt;
@@ -156,3 +156,65 @@ module _ (root : Root) (bytes s : List ℕ) (long : 128 ≤ length s) where
               reaches = λ i lt. let le = g.reaches i lt in omega (arith, le, h.outside.same_length);
             };
           }
+
+-- a write where a page begins
+pub told_at : {T E : Type 0} {at place : ℕ} {bytes : List ℕ} {r : Result T E} {a b : Meaning} → at ≡ place → WriteTold 0 at bytes r a b → WriteTold 0 place bytes r a b
+told_at {bytes = bytes} {r = r} {a = a} {b = b} same w = subst (λ (k : ℕ). WriteTold 0 k bytes r a b) same w
+
+pub written_at : {at place : ℕ} {bytes old new : List ℕ} → at ≡ place → Written at bytes old new → Written place bytes old new
+written_at {bytes = bytes} {old = old} {new = new} same w = subst (λ (k : ℕ). Written k bytes old new) same w
+
+pub fill_as : {T E : Type 0} {r : Result T E} {slot other : ℕ} {bytes others : List ℕ} {a b : Meaning} → slot ≡ other → bytes ≡ others → FillSyncedTold slot bytes r a b → FillSyncedTold other others r a b
+fill_as {r = r} {other = other} {bytes = bytes} {a = a} {b = b} same same_bytes f =
+    subst (λ (l : List ℕ). FillSyncedTold other l r a b) same_bytes (subst (λ (n : ℕ). FillSyncedTold n bytes r a b) same f)
+
+pub set_as : {T E : Type 0} {r : Result T E} {root other : Root} {a b : Meaning} → root ≡ other → SetTold 0 0 (root_text root) r a b → SetTold 0 0 (root_text other) r a b
+set_as {r = r} {a = a} {b = b} same h = subst (λ (x : Root). SetTold 0 0 (root_text x) r a b) same h
+
+pub write_failed : {T E : Type 0} {slot : ℕ} {root : Root} {bytes : List ℕ} (r : Result T E) {a b : Meaning} → IsErr r → Run 0 (FormerOrNew slot root bytes (a.now.seen 0)) a b → CheckpointTold slot root bytes r a b
+write_failed (Ok x) err run = absurd (cc err)
+write_failed (Err e) err run = record { run = run; settled = tt; holds = tt }
+
+-- the root that is written may stand
+pub is_next : (root : Root) (bytes : List ℕ) → length bytes ≤ 2 ^ 40 → 1 ≤ root.first → root.first ≤ 2 ^ 48 → IsRoot (next_root root bytes)
+is_next root bytes size low high = record { slot = other_low root.slot; size = size; low = low; high = high }
+
+-- The calls of a write, one after another.
+module _ (root : Root) (bytes : List ℕ) {a : Meaning} (long : 128 ≤ length (a.now.seen 0)) where
+  pub to_fill : {T E : Type 0} {r : Result T E} {b : Meaning} → FillSyncedTold (other_slot root.slot) bytes r a b → Run 0 (FormerOrNew root.slot (next_root root bytes) bytes (a.now.seen 0)) a b
+  to_fill f = weaker_run f.filled.run (λ c k. filling root bytes (a.now.seen 0) long c k)
+
+  keeps : {T E : Type 0} {r : Result T E} {b : Meaning} → FillSyncedTold (other_slot root.slot) bytes r a b → KeepsSlot (other_slot (other_slot root.slot)) (a.now.seen 0) (b.now.seen 0)
+  keeps {b = b} f = f.filled.run.here (b.now.seen 0) (b.seen_now 0)
+
+  pub still_long : {T E : Type 0} {r : Result T E} {b : Meaning} → FillSyncedTold (other_slot root.slot) bytes r a b → 128 ≤ length (b.now.seen 0)
+  still_long f = let k = keeps f in omega (arith, k.no_shorter)
+
+  module _ (is : IsRoot (next_root root bytes)) {T E : Type 0} {x : T} {b : Meaning} (f : FillSyncedTold {E = E} (other_slot root.slot) bytes (Ok x) a b) where
+    pub to_set : {F G : Type 0} {r : Result F G} {c : Meaning} → SetTold 0 0 (root_text (next_root root bytes)) r b c → Run 0 (FormerOrNew root.slot (next_root root bytes) bytes (a.now.seen 0)) a c
+    to_set h = then_run (to_fill f) h.run (λ i k. setting root bytes (a.now.seen 0) long (b.now.seen 0) i is (keeps f) f.filled.stand f.filled.reaches k)
+
+    pub is_written : {F G : Type 0} {y : F} {c : Meaning} → SetTold {E = G} 0 0 (root_text (next_root root bytes)) (Ok y) b c → Holds (c.now.seen 0) (next_root root bytes) bytes
+    is_written {c = c} h =
+        let at_end = h.run.here (c.now.seen 0) (c.seen_now 0) in
+        holds root bytes (a.now.seen 0) long (b.now.seen 0) (c.now.seen 0) is f.filled.stand f.filled.reaches at_end.outside.same_length (λ i high. at_end.outside.same i (inr (omega arith))) h.value
+
+  -- the cell that is set has the bytes that it had
+  pub same_writes : {T E : Type 0} {r : Result T E} {b : Meaning} → FillSyncedTold (other_slot root.slot) bytes r a b → writes_for (bytes_at (b.now.seen 0) 0) ≡ writes_for (bytes_at (a.now.seen 0) 0)
+  same_writes {b = b} f =
+      let same = same_cell root bytes (a.now.seen 0) long (b.now.seen 0) (keeps f) in
+      let low = copy_low (bytes_at (b.now.seen 0) 0) in
+      let gate : bytes_at (b.now.seen 0) 0 (copy_for (bytes_at (b.now.seen 0) 0)) ≡ bytes_at (a.now.seen 0) 0 (copy_for (bytes_at (a.now.seen 0) 0)) =
+      same (copy_for (bytes_at (b.now.seen 0) 0)) (omega arith) ∙ ap (bytes_at (a.now.seen 0) 0) (copy_ext (bytes_at (b.now.seen 0) 0) (bytes_at (a.now.seen 0) 0) same) in
+      ap (λ (k : ℕ). if k == 1 then 3 else 2) gate
+
+pub both_writes : (p q w v x y z : ℕ) → p ≡ q → y ≡ raised_by p x → z ≡ raised_by w y → w ≡ v → z ≡ raised_by (q + v) x
+both_writes p q w v x y z d a b e = omega arith
+
+-- the root that the code makes is the next
+pub root_as : (root : Root) (bytes : List ℕ) {slot long : ℕ} → slot ≡ other_slot root.slot → long ≡ length bytes → ◌≡◌ {A = Root} (record { slot = slot; geo = root.geo; length = long; first = root.first }) (next_root root bytes)
+root_as root bytes a b = λ i. record { slot = a i; geo = root.geo; length = b i; first = root.first }
+
+pub set_ok : {T E F G : Type 0} {x : T} {y : F} {payload text : List ℕ} {a b : Meaning} → payload ≡ text → SetTold {E = E} 0 0 payload (Ok x) a b → SetTold {E = G} 0 0 text (Ok y) a b
+set_ok {E = E} {G = G} {x = x} {y = y} {a = a} {b = b} same h =
+    subst (λ (l : List ℕ). SetTold {E = G} 0 0 l (Ok y) a b) same (record { run = h.run; settled = h.settled; value = h.value; copy = h.copy })

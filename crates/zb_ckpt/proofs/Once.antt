@@ -1,11 +1,11 @@
 -- An image says one checkpoint, or is foreign in one field.
-use Rattle.std.proofs.Common.{◌≡◌, ◌⊎◌, inl, inr, ℕ, ◌+◌, ◌<◌, ◌≤◌, List, length, slice_index, Option, None, Some, refl, sym, ◌∙◌, ap, subst, arith}
-use Rattle.zb_cell.specs.Cell.{window, value, bytes_at}
+use Rattle.std.proofs.Common.{◌≡◌, inl, inr, ℕ, ◌+◌, ◌<◌, List, length, slice_index, Option, None, Some, refl, sym, ◌∙◌, ap, subst, arith}
+use Rattle.zb_cell.specs.Cell.{window, bytes_at}
 use Rattle.zb_cell.proofs.Values.{window_is, value_ext}
 use Rattle.zb_ckpt.specs.declared.numbers.Numbers.{Numbers}
 use Rattle.zb_ckpt.specs.declared.root.Root.{Root}
-use Rattle.zb_ckpt.specs.Root.{HaveRoom, IsRoot, first_wrong, numbers_of, payload_text, root_text}
-use Rattle.zb_ckpt.specs.Says.{place_of, Says, Holds, HasWrong, IsForeign}
+use Rattle.zb_ckpt.specs.Root.{IsRoot, first_wrong, numbers_of, root_text}
+use Rattle.zb_ckpt.specs.Says.{place_of, HasWrong}
 use Rattle.zb_ckpt.specs.Laws.{SaysOne, SaysNoForeign, ForeignOnce, DependsOnCellAndPages}
 use Rattle.zb_ckpt.proofs.Places.{place_high}
 use Rattle.zb_ckpt.proofs.Roots.{none_wrong, root_room, payload_once, same_root}

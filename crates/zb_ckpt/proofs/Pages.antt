@@ -1,5 +1,5 @@
 -- What reads of a slot's pages give.
-use Rattle.std.proofs.Common.{◌≡◌, inl, inr, ℕ, ◌+◌, ◌-◌, ◌*◌, ◌<◌, ◌≤◌, List, ◌++◌, length, slice_index, Result, Ok, Err, IsErrOf, IfOk, false, true, refl, sym, ◌∙◌, ap, subst, arith, length-append}
+use Rattle.std.proofs.Common.{◌≡◌, inl, inr, ℕ, ◌+◌, ◌-◌, ◌*◌, ◌<◌, ◌≤◌, List, ◌++◌, length, slice_index, Result, refl, sym, ◌∙◌, ap, subst, arith, length-append}
 use Rattle.std.proofs.lemmas.List.{get_or_append_left, get_or-append_right}
 use Rattle.std.proofs.lemmas.Bool.{cases_lt}
 use Rattle.zb_outside.specs.Meaning.{Meaning}
@@ -43,3 +43,9 @@ stand_seen slot bytes image other same h = subst (λ (s : List ℕ). BytesStand 
 
 pub reads_seen : (at : ℕ) (bytes image other : List ℕ) → other ≡ image → Reads other at bytes → Reads image at bytes
 reads_seen at bytes image other same h = subst (λ (s : List ℕ). Reads s at bytes) same h
+
+-- one page more, as it is read
+pub page_read : (slot page at : ℕ) (bytes part slice more image other : List ℕ) → length bytes ≡ 65536 * page → length part ≤ 65536 → BytesStand image slot bytes → Reads other at part → other ≡ image → at ≡ page_at slot page → slice ≡ part → more ≡ bytes ++ slice → BytesStand image slot more
+page_read slot page at bytes part slice more image other size few stand reads seen place same is_more =
+    subst (BytesStand image slot) (sym (is_more ∙ ap (λ (l : List ℕ). bytes ++ l) same))
+    (page_more slot page bytes part image size few stand (subst (λ (s : List ℕ). Reads s (page_at slot page) part) seen (subst (λ (k : ℕ). Reads other k part) place reads)))

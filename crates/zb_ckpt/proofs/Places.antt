@@ -1,6 +1,7 @@
 -- Where the bytes of a checkpoint stand.
-use Rattle.std.proofs.Common.{◌≡◌, ◌≢◌, ◌⊎◌, inl, inr, ℕ, zero, suc, ◌+◌, ◌*◌, ◌/◌, ◌%◌, ◌<◌, ◌≤◌, refl, arith}
+use Rattle.std.proofs.Common.{◌≡◌, ◌≢◌, ◌⊎◌, inl, inr, ℕ, zero, suc, ◌+◌, ◌*◌, ◌<◌, ◌≤◌, refl, arith}
 use Rattle.std.proofs.lemmas.Bool.{cases_lt}
+use Rattle.std.proofs.lemmas.Bool.Decides.{nat_tests}
 use Rattle.zb_ckpt.specs.Says.{place_of}
 use Rattle.zb_ckpt.specs.Write.{other_slot}
 
@@ -30,13 +31,12 @@ pub place_high : (slot i : ℕ) → 1048576 ≤ place_of slot i
 place_high slot i = omega arith
 
 pub other_low : (slot : ℕ) → other_slot slot < 2
-other_low zero = omega arith
-other_low (suc n) = omega arith
+other_low slot = grind (arith, nat_tests)
 
 pub other_apart : (slot : ℕ) → slot < 2 → other_slot slot ≢ slot
-other_apart zero lt e = omega arith
-other_apart (suc zero) lt e = omega arith
-other_apart (suc (suc n)) lt e = omega arith
+other_apart zero lt e = omega (arith, e)
+other_apart (suc zero) lt e = omega (arith, e)
+other_apart (suc (suc n)) lt e = omega (arith, lt)
 
 pub other_twice : (slot : ℕ) → slot < 2 → other_slot (other_slot slot) ≡ slot
 other_twice zero lt = refl

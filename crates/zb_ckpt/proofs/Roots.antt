@@ -1,15 +1,17 @@
 -- The numbers of a root.
-use Rattle.std.proofs.Common.{◌≡◌, ℕ, ◌+◌, ◌*◌, ◌<◌, ◌≤◌, ◌^◌, ◌==◌, ◌&&◌, ◌%◌, nat_le, nat_lt, is_none, Bool, true, false, List, [], ◌∷◌, ◌++◌, Option, None, Some, refl, sym, ◌∙◌, ap, subst, arith}
+use Rattle.std.proofs.Common.{◌≡◌, ℕ, ◌*◌, ◌<◌, ◌≤◌, ◌^◌, ◌==◌, ◌&&◌, ◌%◌, nat_le, nat_lt, is_none, Bool, true, false, List, [], ◌∷◌, ◌++◌, length, slice_index, take, drop, Option, None, refl, sym, ◌∙◌, ap, subst, arith}
 use Rattle.std.proofs.lemmas.Bool.{le-leb, lt-ltb, eq-eqb, and_from}
 use Rattle.std.proofs.Math.Nat.{mul-le-mul_left, ℕ_set}
 use Rattle.std.proofs.Math.Bridge.{le_prop}
 use Rattle.zb_types.specs.declared.geometry.Geometry.{Geometry}
 use Rattle.zb_types.specs.Limits.{InLimits, within, unless, first_bad}
+use Rattle.std.proofs.lemmas.List.{append-nil}
+use Rattle.byteorder.specs.Endian.{big_bytes}
 use Rattle.zb_numbers.specs.Numbers.{number_text}
 use Rattle.zb_numbers.proofs.Digits.{number_once}
 use Rattle.zb_ckpt.specs.declared.numbers.Numbers.{Numbers}
 use Rattle.zb_ckpt.specs.declared.root.Root.{Root}
-use Rattle.zb_ckpt.specs.Root.{HaveRoom, IsRoot, first_wrong, letters, numbers_of, payload_text}
+use Rattle.zb_ckpt.specs.Root.{HaveRoom, IsRoot, first_wrong, numbers_of, payload_text}
 
 unless_true : (holds : Bool) (field : ℕ) (others : Option ℕ) → holds ≡ true → others ≡ None → unless holds field others ≡ None
 unless_true true field others h e = e
@@ -127,3 +129,34 @@ pub same_root : (a b : Root) → numbers_of a ≡ numbers_of b → a ≡ b
 same_root a b e =
     let geo = same_geometry a.geo b.geo (λ i. record { servers = (e i).servers; clients = (e i).clients; fragment = (e i).fragment; block = (e i).block; slots = (e i).slots }) in
     λ i. record { slot = (e i).slot; geo = geo i; length = (e i).length; first = (e i).first }
+
+-- The bytes that are split off one behind the other are those of the numbers.
+
+none_left : (l : List ℕ) → length l ≡ 0 → l ≡ []
+none_left [] e = refl
+none_left (x ∷ l) e = absurd (omega arith)
+
+four_front : (l : List ℕ) → 4 ≤ length l → slice_index (take 4 l) 0 ∷ slice_index (take 4 l) 1 ∷ slice_index (take 4 l) 2 ∷ slice_index (take 4 l) 3 ∷ drop 4 l ≡ l
+four_front [] le = absurd (omega arith)
+four_front (a ∷ []) le = absurd (omega arith)
+four_front (a ∷ b ∷ []) le = absurd (omega arith)
+four_front (a ∷ b ∷ c ∷ []) le = absurd (omega arith)
+four_front (a ∷ b ∷ c ∷ d ∷ l) le = refl
+
+four_bytes : (bytes l rest : List ℕ) → 4 ≤ length l → bytes ≡ take 4 l → rest ≡ drop 4 l → slice_index bytes 0 ∷ slice_index bytes 1 ∷ slice_index bytes 2 ∷ slice_index bytes 3 ∷ rest ≡ l
+four_bytes bytes l rest le front back =
+    (λ i. slice_index (front i) 0 ∷ slice_index (front i) 1 ∷ slice_index (front i) 2 ∷ slice_index (front i) 3 ∷ back i) ∙ four_front l le
+
+pub text_of : (head format fragment block slots long first : ℕ) (payload r1 r2 bytes r3 r4 r5 r6 r7 r8 : List ℕ)
+    → number_text 4 head ++ r1 ≡ payload → number_text 4 format ++ r2 ≡ r1 → 4 ≤ length r2 → bytes ≡ take 4 r2 → r3 ≡ drop 4 r2
+    → number_text 4 fragment ++ r4 ≡ r3 → number_text 4 block ++ r5 ≡ r4 → number_text 4 slots ++ r6 ≡ r5 → number_text 8 long ++ r7 ≡ r6 → number_text 8 first ++ r8 ≡ r7 → length r8 ≡ 0
+    → payload_text (record { head = head; format = format; slot = slice_index bytes 0; servers = slice_index bytes 1; clients = slice_index bytes 2; zero = slice_index bytes 3; fragment = fragment; block = block; slots = slots; length = long; first = first }) ≡ payload
+unfolding number_text
+text_of head format fragment block slots long first payload r1 r2 bytes r3 r4 r5 r6 r7 r8 e1 e2 few front back e3 e4 e5 e6 e7 none =
+    let h7 : big_bytes 8 first ≡ r7 = sym (append-nil (big_bytes 8 first)) ∙ ap (λ (l : List ℕ). big_bytes 8 first ++ l) (sym (none_left r8 none)) ∙ e7 in
+    let h6 : big_bytes 8 long ++ big_bytes 8 first ≡ r6 = ap (λ (l : List ℕ). big_bytes 8 long ++ l) h7 ∙ e6 in
+    let h5 : big_bytes 4 slots ++ (big_bytes 8 long ++ big_bytes 8 first) ≡ r5 = ap (λ (l : List ℕ). big_bytes 4 slots ++ l) h6 ∙ e5 in
+    let h4 : big_bytes 4 block ++ (big_bytes 4 slots ++ (big_bytes 8 long ++ big_bytes 8 first)) ≡ r4 = ap (λ (l : List ℕ). big_bytes 4 block ++ l) h5 ∙ e4 in
+    let h3 : big_bytes 4 fragment ++ (big_bytes 4 block ++ (big_bytes 4 slots ++ (big_bytes 8 long ++ big_bytes 8 first))) ≡ r3 = ap (λ (l : List ℕ). big_bytes 4 fragment ++ l) h4 ∙ e3 in
+    let h2 = ap (λ (l : List ℕ). slice_index bytes 0 ∷ slice_index bytes 1 ∷ slice_index bytes 2 ∷ slice_index bytes 3 ∷ l) h3 ∙ four_bytes bytes r2 r3 few front back in
+    ap (λ (l : List ℕ). big_bytes 4 head ++ (big_bytes 4 format ++ l)) h2 ∙ ap (λ (l : List ℕ). big_bytes 4 head ++ l) e2 ∙ e1

@@ -1,5 +1,5 @@
 -- The 40 bytes of the root cell.
-use Rattle.std.specs.Prelude.{◌≡◌, ◌==◌, ◌&&◌, ◌<◌, ◌≤◌, ◌^◌, ℕ, nat_le, nat_lt, is_none, List, ◌∷◌, ◌++◌, Option, None}
+use Rattle.std.specs.Prelude.{◌==◌, ◌&&◌, ◌<◌, ◌≤◌, ◌^◌, ℕ, nat_le, nat_lt, is_none, List, ◌∷◌, ◌++◌, Option, None}
 use Rattle.byteorder.specs.Endian.{big_bytes}
 use Rattle.zb_types.specs.Limits.{first_bad, unless, within}
 use Rattle.zb_ckpt.specs.declared.numbers.Numbers.{Numbers}

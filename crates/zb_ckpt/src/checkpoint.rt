@@ -1,10 +1,11 @@
-ghost use Rattle.std.specs.Prelude.{◌≡◌, ◌≤◌, ◌+◌, ◌^◌, ℕ, length, IsTrue, IsErrOf, IfOk, OnOk, Some};
+ghost use Rattle.std.specs.Prelude.{◌≡◌, ◌≤◌, ◌+◌, ◌^◌, ℕ, length, IsTrue, IsErrOf, IfOk, OnOk, Some, is_err};
 ghost use Rattle.zb_outside.specs.Counts.{Touches, HasWritten};
 ghost use Rattle.zb_outside.specs.Runs.{IsSettled, SparesOthers};
 ghost use Rattle.zb_cell.specs.Cell.{bytes_at, value, writes_for};
+ghost use Rattle.zb_cell.specs.Set.{SetTold};
 ghost use Rattle.zb_ckpt.specs.Root.{IsRoot, root_text};
 ghost use Rattle.zb_ckpt.specs.Says.{Says, IsForeign, pages_of};
-ghost use Rattle.zb_ckpt.specs.Write.{WriteTold, next_root};
+ghost use Rattle.zb_ckpt.specs.Write.{WriteTold, next_root, other_slot};
 ghost use Rattle.zb_ckpt.specs.Reading.{LeftAlone};
 ghost use Rattle.zb_ckpt.specs.Faults.{is_stopped};
 ghost use Rattle.zb_ckpt.specs.declared.faults.CkptFault.TheVariants as fault;
@@ -17,7 +18,31 @@ use crate::root::Root;
 use std::alloc::Global;
 use zb_cell::{CellFault, get, set};
 use zb_outside::Bay;
-use zb_types::ByteList;
+use zb_types::{ByteList, Failed};
+
+// The slot that isn't this one.
+fn other_slot(slot: u8) -> u8
+    ensures { result ≡ other_slot slot }
+{
+    if slot == 0 {
+        return 1;
+    }
+    0
+}
+
+// Sets the root cell.
+fn set_root<B: Bay>(bay: &mut B, root: &Root) -> Result<(), Failed>
+    ensures told { IsTrue B.tells → IsSettled 0 (B.meaning bay.old).now → 128 ≤ length ((B.meaning bay.old).now.seen 0) → SetTold 0 0 (root_text root.now) result (B.meaning bay.old) (B.meaning bay.new) }
+    ensures others { IsTrue B.tells → SparesOthers 0 (B.meaning bay.old) (B.meaning bay.new) }
+    ensures touches { Touches B.counts B.follows 0 3 (is_err result) bay.old bay.new }
+    ensures written { IsTrue B.tells → OnOk result (HasWritten 0 (writes_for (bytes_at ((B.meaning bay.old).now.seen 0) 0)) (B.counts bay.old) (B.counts bay.new)) }
+{
+    let payload = spelled(root);
+    match set(bay, 0, 0, &payload) {
+        Ok(()) => Ok(()),
+        Err(_) => Err(Failed),
+    }
+}
 
 /// Writes at most 2^40 bytes as a checkpoint into the slot of platter 0 that the root doesn't name, and then the root cell.
 /// The new root names that slot, and keeps the system and the number of the given one, which is from 1 to 2^48.
@@ -40,17 +65,15 @@ pub fn write<B: Bay>(bay: &mut B, root: &Root, bytes: &ByteList) -> Result<Root,
     ensures touches { Touches B.counts B.follows 0 (pages_of (length bytes.now) + 3) (is_stopped result) bay.old bay.new }
     ensures written { IsTrue B.tells → 128 ≤ length ((B.meaning bay.old).now.seen 0) → IsSettled 0 (B.meaning bay.old).now → OnOk result (HasWritten 0 (pages_of (length bytes.now) + writes_for (bytes_at ((B.meaning bay.old).now.seen 0) 0)) (B.counts bay.old) (B.counts bay.new)) }
 {
-    let slot = if root.slot == 0 { 1 } else { 0 };
+    let slot = other_slot(root.slot);
     fill(bay, slot, bytes.slice())?;
     let new = Root {
         slot,
         length: bytes.len() as u64,
         ..*root
     };
-    match set(bay, 0, 0, &spelled(&new)) {
-        Ok(()) => Ok(new),
-        Err(_) => Err(CkptFault::Stopped),
-    }
+    set_root(bay, &new)?;
+    Ok(new)
 }
 
 // The root of platter 0.

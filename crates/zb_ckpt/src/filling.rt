@@ -43,17 +43,7 @@ fn write_pages<B: Bay>(bay: &mut B, slot: u8, bytes: &[u8]) -> Result<(), Failed
     Ok(())
 }
 
-//// How many of so many bytes stand in one page.
-pub(crate) fn page_len(left: usize) -> usize
-    ensures { result ≡ min left 65536 }
-{
-    if left < PAGE {
-        return left;
-    }
-    PAGE
-}
-
-// Writes these bytes into the pages of this slot of platter 0, and syncs them.
+/// Writes these bytes into the pages of this slot of platter 0, and syncs them.
 ///
 /// `Failed` comes only where a call of the platter failed.
 pub(crate) fn fill<B: Bay>(bay: &mut B, slot: u8, bytes: &[u8]) -> Result<(), Failed>

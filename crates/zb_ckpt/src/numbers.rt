@@ -87,7 +87,6 @@ pub(crate) fn spelled(root: &Root) -> [u8; 40]
 }
 
 // The numbers of a payload.
-#[tactic(auto, unfolding(zb_numbers::specs::Numbers::number_text))]
 fn numbers_in(payload: &[u8; 40]) -> Numbers
     ensures text { payload_text result ≡ payload.now }
     ensures room { HaveRoom result }

@@ -61,7 +61,13 @@ fn a_commit_has_its_bytes(rt: HostRuntime) -> Result<(), Fail> {
         pieces,
     };
     assert_eq!(rt; journal.append(alloc, &mut bay, &commit), Ok(()));
-    assert_eq!(rt; journal, Journal { place: 112, number: 4 });
+    assert_eq!(rt;
+        journal,
+        Journal {
+            place: 112,
+            number: 4
+        }
+    );
     let mut bytes = [9; 49];
     assert_eq!(rt; bay.read_at(0, 4_160, &mut bytes), Ok(()));
     assert_eq!(rt; bytes, CREATE);
@@ -119,8 +125,10 @@ fn stopped(
 fn a_stop_leaves_the_entries_before_or_with_the_new_one(rt: HostRuntime) {
     let alloc = rt.alloc();
     for (choice, cut, passed, added) in STOPS {
-        let (mut bay, mut journal, list) =
-            stopped(alloc, choice, cut, passed).expect(&rt, "a journal");
+        let (mut bay, mut journal, list) = stopped(alloc, choice, cut, passed).expect(
+            &rt,
+            "a journal",
+        );
         let wanted = if added { [6, 0] } else { [0, 0] };
         assert_eq!(rt; stripes(&list), wanted);
         assert_eq!(rt; journal.append(alloc, &mut bay, &retire(7)), Ok(()));
@@ -204,7 +212,17 @@ fn filled_twice(alloc: Global, number: u64) -> Result<(u32, u32, Journal), Journ
 #[test]
 fn a_journal_fills_and_is_cut_twice(rt: HostRuntime) {
     let filled = filled_twice(rt.alloc(), 1);
-    assert_eq!(rt; filled, Ok((2_047, 2_047, Journal { place: 0, number: 4_095 })));
+    assert_eq!(rt;
+        filled,
+        Ok((
+            2_047,
+            2_047,
+            Journal {
+                place: 0,
+                number: 4_095
+            }
+        ))
+    );
 }
 
 #[test]
@@ -217,5 +235,8 @@ fn the_last_number_is_given_to_no_entry(rt: HostRuntime) {
     };
     assert_eq!(rt; journal.append(alloc, &mut bay, &retire(5)), Ok(()));
     journal.cut();
-    assert_eq!(rt; journal.append(alloc, &mut bay, &retire(5)), Err(JournalFault::Worn));
+    assert_eq!(rt;
+        journal.append(alloc, &mut bay, &retire(5)),
+        Err(JournalFault::Worn)
+    );
 }

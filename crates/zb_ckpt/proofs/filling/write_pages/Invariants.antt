@@ -1,4 +1,4 @@
-use Rattle.std.proofs.Common.{◌*◌, ◌+◌, false, IsTrue, length}
+use Rattle.std.proofs.Common.{◌*◌, false, IsTrue}
 use Rattle.zb_outside.specs.Counts.{Touches, HasWritten}
 use Rattle.zb_outside.specs.Runs.{Run, IsSettled, SparesOthers}
 use Rattle.zb_ckpt.specs.Write.{KeepsSlot, StandUpTo, other_slot}

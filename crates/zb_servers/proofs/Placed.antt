@@ -1,10 +1,11 @@
 -- What is read and put at a server's number.
-use Rattle.std.proofs.Common.{◌≡◌, ◌≢◌, ℕ, zero, suc, ◌-◌, ◌<◌, ◌≤◌, List, [], ◌∷◌, length, sym, ap, ◌∙◌, refl, subst, inl, inr, arith, get_or-set_same, get_or-set_other}
+use Rattle.std.proofs.Common.{◌≡◌, ◌≢◌, ℕ, zero, suc, ◌-◌, ◌<◌, ◌≤◌, List, ◌∷◌, length, None, sym, ap, ◌∙◌, refl, subst, inl, inr, arith, get_or-set_same, get_or-set_other}
 use Rattle.std.specs.Prelude.{replicate, slice_index_or, slice_set}
 use Rattle.std.proofs.lemmas.List.{get_or_default, length-set, length-replicate}
 use Rattle.std.proofs.lemmas.Bool.{cases_eq}
 use Rattle.zb_types.specs.declared.ids.ServerId.{ServerId}
-use Rattle.zb_servers.specs.Standing.{SeenServer, SeenServers, empty_server, server_at, AreServers}
+use Rattle.zb_types.specs.declared.ids.FragId.{FragId}
+use Rattle.zb_servers.specs.Standing.{SeenServer, SeenServers, empty_server, server_at, stands_in, AreServers}
 
 -- this is read at a place, which is that of a server
 pub record IsPlaced (servers : List SeenServer) (server : ServerId) (at : ℕ) (read : SeenServer) : Type 0 where
@@ -73,3 +74,7 @@ all_empty slots count few = record {
   few = omega (arith, length-replicate count empty_server, few);
   room = λ server. subst (λ (s : SeenServer). length s.entries ≤ slots) (sym (empty_at count server.0)) (omega arith);
 }
+
+pub nothing_stands : (servers : List SeenServer) (count : ℕ) (server : ServerId) (id : FragId) → servers ≡ replicate count empty_server → stands_in (server_at servers server).entries id ≡ None
+nothing_stands servers count server id is =
+    ap (λ (all : List SeenServer). stands_in (server_at all server).entries id) is ∙ ap (λ (s : SeenServer). stands_in s.entries id) (empty_at count server.0)

@@ -1,5 +1,6 @@
-ghost use Rattle.std.specs.Prelude.{◌≡◌, ◌+◌, ◌<◌, ◌≤◌, nat_le, true, false, replicate, IfOk, OnErr, length};
+ghost use Rattle.std.specs.Prelude.{◌≡◌, ◌+◌, ◌<◌, ◌≤◌, nat_le, true, false, replicate, None, IfOk, OnErr, length};
 ghost use Rattle.zb_types.specs.declared.ids.ServerId.{ServerId as SeenServerId};
+ghost use Rattle.zb_types.specs.declared.ids.FragId.{FragId as SeenFragId};
 ghost use Rattle.zb_holding.specs.Carrying.{carried};
 ghost use Rattle.zb_holding.specs.Rules.{IsAnswer, IsLeft};
 ghost use Rattle.zb_servers.specs.Standing.{empty_server, server_at, has, maps_of, IsInOrder, AreOthersSame};
@@ -32,6 +33,7 @@ impl Servers {
     pub fn new(alloc: Global, geo: &Geometry) -> Mem<Servers>
         ensures slots { IfOk result (λ made. made.slots ≡ geo.now.slots) }
         ensures servers { IfOk result (λ made. made.servers ≡ replicate geo.now.servers empty_server) }
+        ensures nothing { IfOk result (λ made. (server : SeenServerId) (id : SeenFragId) → maps_of made server id ≡ None) }
     {
         let mut servers = Vec::new(alloc);
         for _ in 0..geo.servers {

@@ -1,4 +1,4 @@
-ghost use Rattle.std.specs.Prelude.{◌≡◌, IfOk, IfErr, OnErr};
+ghost use Rattle.std.specs.Prelude.{◌≡◌, true, is_some, IfOk, OnErr};
 ghost use Rattle.zb_types.specs.declared.tables.CommitFault.TheVariants.{Stopped as PlatterStopped};
 ghost use Rattle.zb_tables.specs.Taking.{MayCommit, commit_refusal};
 ghost use Rattle.zb_manager.specs.Managers.{SameTables};
@@ -96,6 +96,7 @@ pub fn commit(
     ensures refused { TellsRefusal (commit_refusal manager.old.sizes.block manager.old.tables batch.now pieces.now generation) result }
     ensures committed { IfOk result (IsCommitted batch.now pieces.now manager.old manager.new) }
     ensures err { OnErr result (SameTables manager.old manager.new) }
+    ensures still { is_some (other_holder client manager.old.holder) ≡ true → manager.new ≡ manager.old }
 {
     if let Some(holder) = other_holder(manager, client) {
         return Err(Uncommitted::Blocked { holder });

@@ -1,5 +1,5 @@
 -- The bits of a number whose first n bits are set.
-use Rattle.std.proofs.Common.{◌≡◌, ℕ, zero, suc, ◌+◌, ◌-◌, ◌*◌, ◌/◌, ◌%◌, ◌^◌, ◌<◌, ◌≤◌, true, false, eqb, leb, bit_and, refl, sym, ap, ◌∙◌, subst, inl, inr, arith}
+use Rattle.std.proofs.Common.{◌≡◌, ℕ, suc, ◌+◌, ◌-◌, ◌*◌, ◌/◌, ◌%◌, ◌^◌, ◌<◌, ◌≤◌, true, false, eqb, leb, bit_and, sym, ap, ◌∙◌, subst, inl, inr, arith}
 use Rattle.std.proofs.lemmas.Nat.{and_mask, pow-add, pow_pos, div-mul-add}
 use Rattle.std.proofs.Math.Nat.{div-eq_of_lt, suc-mul, two-pow-succ, mul_comm}
 use Rattle.std.proofs.Math.Pow.{pow_mono}

@@ -1,5 +1,5 @@
 -- What is answered is carried out.
-use Rattle.std.proofs.Common.{◌≡◌, ℕ, suc, ◌<◌, ◌+◌, Bool, true, false, cond, ◌&&◌, eqb, leb, List, length, take, drop, Option, Some, None, Result, Ok, Err, IfOk, refl, sym, ap, ◌∙◌, subst, inl, inr}
+use Rattle.std.proofs.Common.{◌≡◌, ℕ, suc, ◌<◌, ◌+◌, Bool, true, false, cond, ◌&&◌, leb, List, length, take, drop, Option, Some, None, Result, Ok, Err, IfOk, refl, sym, ap, ◌∙◌, subst, inl, inr}
 use Rattle.std.specs.Prelude.{slice_set}
 use Rattle.std.proofs.lemmas.Bool.{cases_eq, eq-eqb, ne_eqb, false≢true, cond_both}
 use Rattle.zb_types.specs.declared.ids.ServerId.{ServerId}
@@ -13,7 +13,7 @@ use Rattle.zb_types.specs.declared.requests.StoreFault.TheVariants.{Short}
 use Rattle.zb_holding.specs.Fragments.{Fragment, share_fragment, parity_fragment}
 use Rattle.zb_holding.specs.Carrying.{same_frag, is_about, stands_after, found, carried}
 use Rattle.zb_holding.specs.Rules.{Holdings, refusal_of, IsServed, IsAnswer, IsLeft, AreSame, is_done, has_after, map_after}
-use Rattle.zb_servers.specs.Standing.{SeenServer, SeenServers, server_at, stands_in, holdings_of, has, maps_of}
+use Rattle.zb_servers.specs.Standing.{SeenServer, server_at, stands_in, holdings_of, has, maps_of}
 use Rattle.zb_servers.specs.Serving.{is_refused}
 use Rattle.zb_servers.proofs.Placed.{IsPlaced, other-same, own-new}
 

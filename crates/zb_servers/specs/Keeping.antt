@@ -1,16 +1,14 @@
 -- What is kept under a name, and how it changes.
-use Rattle.std.specs.Prelude.{◌≡◌, ℕ, if◌then◌else◌, Option, Some, None}
+use Rattle.std.specs.Prelude.{◌≡◌, if◌then◌else◌, Option, Some, None}
 use Rattle.zb_types.specs.declared.ids.FragId.{FragId}
-use Rattle.zb_types.specs.declared.requests.Request.{Request}
 use Rattle.zb_types.specs.declared.requests.Response.{Response}
 use Rattle.zb_types.specs.declared.requests.Response.TheVariants as told
 use Rattle.zb_types.specs.declared.requests.StoreFault.{StoreFault}
 use Rattle.zb_holding.specs.Fragments.{Fragment, share_fragment, parity_fragment}
 use Rattle.zb_holding.specs.Carrying.{same_frag}
-use Rattle.zb_holding.specs.Rules.{AreSame, has_after}
 use Rattle.zb_servers.specs.declared.kept.Form.{Form}
 use Rattle.zb_servers.specs.declared.kept.Form.TheVariants.{Share, Parity}
-use Rattle.zb_servers.specs.Standing.{Entries, SeenServer, stands_in, holdings_of}
+use Rattle.zb_servers.specs.Standing.{Entries, stands_in}
 
 -- what is kept, as a fragment
 abbrev pub fragment_of : Form → Fragment
@@ -25,7 +23,3 @@ IsPut old new id stands = (q : FragId) → stands_in new q ≡ (if same_frag id 
 abbrev pub done_unless : Option StoreFault → Response
 done_unless None = told.Done
 done_unless (Some fault) = told.Refused fault
-
--- a server with so many slots has carried out a request
-abbrev pub Carries : ℕ → Request → SeenServer → SeenServer → Type 0
-Carries slots request old new = AreSame (holdings_of slots new) (has_after request (holdings_of slots old))

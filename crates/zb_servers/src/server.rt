@@ -1,7 +1,6 @@
-ghost use Rattle.std.specs.Prelude.{◌≡◌, ◌+◌, ◌-◌, ◌^◌, ◌<◌, ◌≤◌, true, false, if◌then◌else◌, is_some, option_map, IfOk, OnOk, OnErr, length, take, Some, None};
+ghost use Rattle.std.specs.Prelude.{◌≡◌, ◌+◌, ◌-◌, ◌^◌, ◌<◌, ◌≤◌, true, false, if◌then◌else◌, is_some, option_map, IfOk, OnOk, OnErr, length, Some, None};
 ghost use Rattle.std.specs.Option.{option_copied};
 ghost use Rattle.zb_types.specs.declared.requests.Request.TheVariants as ask;
-ghost use Rattle.zb_holding.specs.Fragments.{Fragment};
 ghost use Rattle.zb_holding.specs.Carrying.{found, stands_after};
 ghost use Rattle.zb_holding.specs.Listing.{AreLeastAbove};
 ghost use Rattle.zb_holding.specs.Rules.{size_of, outline_of, unless_old, no_slot, unless_there, refusal_up_to, refusal_to_append, or_by, known_refusal, IsAnswer, IsLeft};

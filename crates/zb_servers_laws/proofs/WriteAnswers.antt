@@ -1,7 +1,7 @@
 -- What a write is answered.
-use Rattle.std.proofs.Common.{◌≡◌, ℕ, ◌+◌, ◌<◌, ◌≤◌, Bool, true, false, cond, eqb, leb, ◌||◌, List, length, take, drop, Option, Some, None, refl, sym, ap, ◌∙◌, subst, inl, inr, arith}
+use Rattle.std.proofs.Common.{◌≡◌, ℕ, ◌+◌, ◌≤◌, Bool, true, false, cond, eqb, leb, ◌||◌, List, length, take, drop, Option, Some, None, refl, sym, ap, ◌∙◌, subst, arith}
 use Rattle.std.specs.Prelude.{slice_get, is_some, option_map, nat_lt}
-use Rattle.std.proofs.lemmas.Bool.{cond_both, cases_Bool, lt-leb, eq-eqb, or_right}
+use Rattle.std.proofs.lemmas.Bool.{cond_both, lt-leb, eq-eqb, or_right}
 use Rattle.zb_types.specs.declared.ids.ServerId.{ServerId}
 use Rattle.zb_types.specs.declared.ids.FragId.{FragId}
 use Rattle.zb_types.specs.declared.nodes.Class.{Class}
@@ -15,7 +15,7 @@ use Rattle.zb_types.specs.declared.requests.StoreFault.TheVariants.{NoFragment, 
 use Rattle.zb_holding.specs.Fragments.{Fragment, share_fragment, parity_fragment}
 use Rattle.zb_holding.specs.Placing.{share_length, frag_id}
 use Rattle.zb_holding.specs.Carrying.{found}
-use Rattle.zb_holding.specs.Rules.{Holdings, Size, size_of, is_full, no_slot, unless_old, unless_there, stand_at, refusal_to_append, or_by, known_refusal, outline_of, refusal_of, refusal_up_to, IsServed, IsAnswer}
+use Rattle.zb_holding.specs.Rules.{Holdings, Size, size_of, is_full, no_slot, unless_old, unless_there, stand_at, refusal_to_append, or_by, refusal_of, refusal_up_to, IsServed, IsAnswer}
 use Rattle.zb_stripe.specs.declared.flush.Flush.{Flush}
 use Rattle.zb_stripe.specs.Writing.{grow, new_bytes, plan_requests}
 use Rattle.zb_sound.specs.LastFlush.{EndsAt, FindsItsPlace}

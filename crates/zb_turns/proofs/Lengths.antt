@@ -1,7 +1,7 @@
 -- The length of a file is that which the tables have.
-use Rattle.std.proofs.Common.{◌≡◌, ℕ, List, length, Option, Some, None, refl, sym, ap, ◌∙◌}
+use Rattle.std.proofs.Common.{◌≡◌, ℕ, length, Option, Some, None, refl, sym, ap, ◌∙◌}
 use Rattle.std.proofs.lemmas.List.FromFn.{length-map-range_with_len}
-use Rattle.zb_types.specs.Keyed.{look, changed}
+use Rattle.zb_types.specs.Keyed.{look}
 use Rattle.zb_types.specs.Tree.{or_none, stored}
 use Rattle.zb_types.specs.declared.nodes.Members.{Members}
 use Rattle.zb_types.proofs.KeyedLists.{over, look-changed}

@@ -9,6 +9,6 @@ mod naming;
 
 pub use committing::{Uncommitted, commit};
 pub use holding::give_up;
-pub use laws::each_operation_is_replied;
+pub use laws::{each_operation_is_replied, lookups_find_what_is_asked};
 pub use looking::look_up;
 pub use naming::{answer_names, reads_names};

@@ -1,10 +1,10 @@
-use Rattle.std.proofs.Common.{◌≡◌, Some, None, is_some, true, cond, refl, sym, ap, subst, ◌∙◌, IsSome, IfOk, option_map}
+use Rattle.std.proofs.Common.{◌≡◌, Some, refl, sym, ap, subst, ◌∙◌, IsSome, IfOk, option_map}
 use Rattle.std.specs.BTreeMap.{is_at}
 use Rattle.std.proofs.lemmas.Result.{on_err_weaker, IfOk-weaker}
 use Rattle.std.proofs.lemmas.Map.Steps.{set_value_same}
 use Rattle.zb_types.specs.Order.{frag_cmp}
 use Rattle.zb_types.specs.declared.requests.Request.TheVariants as ask
-use Rattle.zb_holding.specs.Carrying.{stands_after, same_frag}
+use Rattle.zb_holding.specs.Carrying.{stands_after}
 use Rattle.zb_holding.specs.Rules.{size_of, unless_there, refusal_to_append, or_by}
 use Rattle.zb_servers.specs.Standing.{SeenServer, stands_in}
 use Rattle.zb_servers.specs.Keeping.{IsPut, done_unless}

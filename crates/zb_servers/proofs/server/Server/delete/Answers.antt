@@ -1,4 +1,4 @@
-use Rattle.std.proofs.Common.{◌≡◌, ◌+◌, cond, length, None, sym, ap, ◌∙◌, is_some}
+use Rattle.std.proofs.Common.{◌+◌, cond, length, None, sym, ap, ◌∙◌, is_some}
 use Rattle.zb_servers.proofs.Naming.{stands-is, put_by}
 use Rattle.zb_servers.proofs.server.Server.delete.Goals as goal
 

@@ -1,5 +1,4 @@
-use Rattle.std.proofs.Common.{◌≡◌, ◌+◌, cond, length, Some, sym, ap, ◌∙◌, is_some}
-use Rattle.zb_servers.specs.Standing.{stands_in}
+use Rattle.std.proofs.Common.{◌+◌, cond, length, Some, ap, ◌∙◌, is_some}
 use Rattle.zb_servers.proofs.Naming.{stands-is, put_by}
 use Rattle.zb_servers.proofs.server.Server.put.Goals as goal
 

@@ -1,6 +1,5 @@
-use Rattle.std.proofs.Common.{◌≡◌, ℕ, suc, ◌-◌, ◌*◌, ◌%◌, ◌^◌, ◌≤◌, leb, length, sym, ap, ◌∙◌, arith}
+use Rattle.std.proofs.Common.{◌≡◌, ℕ, suc, ◌-◌, ◌*◌, ◌%◌, ◌^◌, ◌≤◌, leb, length, ap, ◌∙◌, arith}
 use Rattle.std.proofs.Math.Pow.{pow_mono}
-use Rattle.zb_types.specs.declared.ids.ServerId.{ServerId}
 use Rattle.zb_servers.specs.Standing.{SeenServers}
 use Rattle.zb_servers.specs.Serving.{has_bit}
 use Rattle.zb_servers.proofs.Bits.{first_set}

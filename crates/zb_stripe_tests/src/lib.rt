@@ -1,4 +1,4 @@
-//! Tests of stripes: where bytes lie, parities, plans of reads and writes, and plain servers.
+//! Tests of stripes: where bytes lie, parities, plans of reads and writes, and servers in memory.
 #![tactic(auto)]
 
 #[cfg(test)]
@@ -8,8 +8,8 @@ mod layout;
 #[cfg(test)]
 mod parity;
 #[cfg(test)]
-mod plain;
-#[cfg(test)]
 mod reads;
+#[cfg(test)]
+mod servers;
 #[cfg(test)]
 mod writes;

@@ -1,1 +1,4 @@
 -- Lemmas on the clients of a sound world.
+pub mod Missing
+pub mod Moving
+pub mod Others

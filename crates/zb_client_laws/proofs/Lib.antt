@@ -2,3 +2,4 @@
 pub mod Missing
 pub mod Moving
 pub mod Others
+pub mod Moves

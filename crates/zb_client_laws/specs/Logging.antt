@@ -9,6 +9,7 @@ use Rattle.zb_stripe.specs.declared.flush.Flush.{Flush}
 use Rattle.zb_log.specs.Logs.{SeenLog, AreGiven, gone_on}
 use Rattle.zb_basis.specs.declared.basis.Basis.{Basis}
 use Rattle.zb_basis.specs.declared.basis.Formed.{Formed}
+use Rattle.zb_basis.specs.declared.calls.Numbered.{Numbered}
 use Rattle.zb_basis.specs.declared.basis.Sealed.{Sealed}
 use Rattle.zb_basis.specs.Delivering.{stripe_of}
 use Rattle.zb_basis.specs.Forming.{IsFormed, writers_out}
@@ -45,46 +46,46 @@ abbrev pub RestsAt : SeenLog → Option Flushed → (generation at front : ℕ) 
 RestsAt log None generation at front phase = (front ≤ log.next.stripe) × AreGiven log []
 RestsAt log (Some last) generation at front phase = MatchBool last.ended (HasEnded log last generation at phase) (front ≤ last.stripe + 1)
 
--- what was formed of the next batch of the kept calls, behind the bytes that its log gave of its stripe
-pub record WasFormed (c : SeenClient) (log : SeenLog) (basis : Basis) : Type 0 where
+-- what was formed of these calls, as a log's batch of this number, behind the bytes that the log gave of its stripe; n servers, f bytes in a fragment, b in a block
+pub record WasFormed (n f b : ℕ) (log : SeenLog) (batch : ℕ) (calls : List Numbered) (basis : Basis) : Type 0 where
   pub given : List ℕ
   pub are : AreGiven log given
   pub whole : Formed
-  pub is : IsFormed c.servers c.fragment c.block log c.batch (first_members basis.found) (run_of c.kept) basis whole
+  pub is : IsFormed n f b log batch (first_members basis.found) calls basis whole
 
 -- its flush
-abbrev pub flush_of : (c : SeenClient) (log : SeenLog) (basis : Basis) → WasFormed c log basis → Flush
-flush_of c log basis was = flush_with log was.given was.whole was.is.blocks
+abbrev pub flush_of : {n f b : ℕ} {log : SeenLog} {batch : ℕ} {calls : List Numbered} {basis : Basis} → WasFormed n f b log batch calls basis → Flush
+flush_of {log = log} was = flush_with log was.given was.whole was.is.blocks
 
 -- its flush has begun, and these of its requests are left
-abbrev pub delivers : (c : SeenClient) (log : SeenLog) (basis : Basis) → WasFormed c log basis → List (ServerId × Request) → Phase
-delivers c log basis was left = flushing (writers_out (first_members basis.found).state) Client (flush_of c log basis was) left
+abbrev pub delivers : {n f b : ℕ} {log : SeenLog} {batch : ℕ} {calls : List Numbered} {basis : Basis} → WasFormed n f b log batch calls basis → List (ServerId × Request) → Phase
+delivers {basis = basis} was left = flushing (writers_out (first_members basis.found).state) Client (flush_of was) left
 
 -- A batch is being stored: its flush goes next in the log, of the generation that was looked up, and nothing was delivered
 -- behind the stripe of the next request.
-pub record IsDelivering (c : SeenClient) (basis : Basis) (formed : Formed) (generation at front : ℕ) (phase : Phase) : Type 0 where
-  pub was : WasFormed c c.log basis
+pub record IsDelivering (n f b : ℕ) (log : SeenLog) (batch : ℕ) (calls : List Numbered) (basis : Basis) (formed : Formed) (generation at front : ℕ) (phase : Phase) : Type 0 where
+  pub was : WasFormed n f b log batch calls basis
   pub formed_is : formed ≡ record was.whole { plan = formed.plan }
-  pub phase_is : phase ≡ delivers c c.log basis was formed.plan
-  pub generation_is : generation ≡ (first_members basis.found).generation
-  pub above : at ≤ c.log.next.stripe
-  pub reached : IfSome (head_of formed.plan) (λ asked. front ≤ stripe_of asked.1 + 1)
-
--- a batch is stored, behind this log, which has gone on behind it
-pub record IsDelivered (c : SeenClient) (basis : Basis) (sealed : Sealed) (generation at : ℕ) (phase : Phase) : Type 0 where
-  pub log : SeenLog
-  pub was : WasFormed c log basis
-  pub sealed_is : sealed ≡ was.whole.sealed
-  pub goes_on : c.log ≡ gone_on log was.whole.sealed.placed.next was.whole.fresh.parts
-  pub phase_is : phase ≡ delivers c log basis was []
+  pub phase_is : phase ≡ delivers was formed.plan
   pub generation_is : generation ≡ (first_members basis.found).generation
   pub above : at ≤ log.next.stripe
-  pub noted : c.flushed ≡ Some (record { generation = generation; stripe = sealed.placed.next.stripe; ended = true })
+  pub reached : IfSome (head_of formed.plan) (λ asked. front ≤ stripe_of asked.1 + 1)
+
+-- a batch is stored: its log has gone on behind it
+pub record IsDelivered (n f b : ℕ) (log : SeenLog) (flushed : Option Flushed) (batch : ℕ) (calls : List Numbered) (basis : Basis) (sealed : Sealed) (generation at : ℕ) (phase : Phase) : Type 0 where
+  pub former : SeenLog
+  pub was : WasFormed n f b former batch calls basis
+  pub sealed_is : sealed ≡ was.whole.sealed
+  pub goes_on : log ≡ gone_on former was.whole.sealed.placed.next was.whole.fresh.parts
+  pub phase_is : phase ≡ delivers was []
+  pub generation_is : generation ≡ (first_members basis.found).generation
+  pub above : at ≤ former.next.stripe
+  pub noted : flushed ≡ Some (record { generation = generation; stripe = sealed.placed.next.stripe; ended = true })
 
 -- the client has its log where its work says
 abbrev pub HasPhase : SeenClient → Step → (generation at front : ℕ) → Phase → Type 0
-HasPhase c (step.Store basis formed) generation at front phase = IsDelivering c basis formed generation at front phase
-HasPhase c (step.Commit basis sealed) generation at front phase = IsDelivered c basis sealed generation at phase
+HasPhase c (step.Store basis formed) generation at front phase = IsDelivering c.servers c.fragment c.block c.log c.batch (run_of c.kept) basis formed generation at front phase
+HasPhase c (step.Commit basis sealed) generation at front phase = IsDelivered c.servers c.fragment c.block c.log c.flushed c.batch (run_of c.kept) basis sealed generation at phase
 HasPhase c step.Lookup generation at front phase = RestsAt c.log c.flushed generation at front phase
 HasPhase c (step.Fetch basis place ptr plan) generation at front phase = RestsAt c.log c.flushed generation at front phase
 HasPhase c (step.Mark server of) generation at front phase = RestsAt c.log c.flushed generation at front phase

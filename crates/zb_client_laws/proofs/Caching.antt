@@ -39,10 +39,10 @@ module _ (P : Ptr × List ℕ → Type 0) where
 
   without_each : (p : Ptr) (es : Blocks) → AllByRecursion P es → AllByRecursion P (others p es)
   without_each p [] all = tt
-  without_each p (x ∷ es) all = by (same_ptr p x.0) where
-    by : (here : Bool) → AllByRecursion P (if here then es else x ∷ others p es)
-    by true = all.1
-    by false = (all.0, without_each p es all.1)
+  without_each p (x ∷ es) all = by (same_ptr p x.0) (without_each p es all.1) where
+    by : (here : Bool) → AllByRecursion P (others p es) → AllByRecursion P (if here then es else x ∷ others p es)
+    by true rest = all.1
+    by false rest = (all.0, rest)
 
   first_each : (n : ℕ) (es : Blocks) → AllByRecursion P es → AllByRecursion P (take n es)
   first_each zero es all = tt

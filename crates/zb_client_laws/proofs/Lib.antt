@@ -5,3 +5,4 @@ pub mod Others
 pub mod Moves
 pub mod Caching
 pub mod Starts
+pub mod Resting

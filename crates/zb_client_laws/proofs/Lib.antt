@@ -6,3 +6,4 @@ pub mod Moves
 pub mod Caching
 pub mod Starts
 pub mod Resting
+pub mod Blocks

@@ -7,3 +7,5 @@ pub mod Caching
 pub mod Starts
 pub mod Resting
 pub mod Blocks
+pub mod Wanted
+pub mod Going

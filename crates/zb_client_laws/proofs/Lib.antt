@@ -9,3 +9,5 @@ pub mod Resting
 pub mod Blocks
 pub mod Wanted
 pub mod Going
+pub mod Tabled
+pub mod Looking

@@ -11,3 +11,5 @@ pub mod Wanted
 pub mod Going
 pub mod Tabled
 pub mod Looking
+pub mod Fetching
+pub mod Fetched

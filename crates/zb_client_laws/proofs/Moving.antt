@@ -1,6 +1,6 @@
 -- What was looked up, fetched and is being read, where stripes grow and servers carry out requests.
 use Rattle.std.proofs.Common.{◌≡◌, ℕ, zero, suc, ◌+◌, ◌≤◌, ◌<◌, List, [], ◌∷◌, Option, Some, None, refl, sym, ap, ◌∙◌, subst, inl, inr, arith}
-use Rattle.std.specs.Prelude.{◌⊎◌, take}
+use Rattle.std.specs.Prelude.{◌⊎◌, drop, take}
 use Rattle.std.specs.List.{AllByRecursion}
 use Rattle.zb_types.specs.declared.ids.Ptr.{Ptr}
 use Rattle.zb_types.specs.declared.ids.LogId.{LogId}
@@ -23,13 +23,27 @@ use Rattle.zb_basis.proofs.Each.{look-each}
 use Rattle.zb_client_laws.specs.Current.{FoundLies, IsReading}
 
 -- a lower end of two lists that are the same up to a higher one
-take_lower : (low high : ℕ) (xs ys : List ℕ) → low ≤ high → take high xs ≡ take high ys → take low xs ≡ take low ys
+pub take_lower : (low high : ℕ) (xs ys : List ℕ) → low ≤ high → take high xs ≡ take high ys → take low xs ≡ take low ys
 take_lower low high xs ys le e = sym (cut low high xs le) ∙ ap (take low) e ∙ cut low high ys le where
   cut : (low high : ℕ) (xs : List ℕ) → low ≤ high → take low (take high xs) ≡ take low xs
   cut zero high xs le = refl
   cut (suc low) zero xs le = absurd (omega arith)
   cut (suc low) (suc high) [] le = refl
   cut (suc low) (suc high) (x ∷ xs) le = ap (λ (t : List ℕ). x ∷ t) (cut low high xs (omega arith))
+
+-- a range of two lists that are the same up to a place behind it
+pub take_within : (offset len end : ℕ) (xs ys : List ℕ) → offset + len ≤ end → take end xs ≡ take end ys → take len (drop offset xs) ≡ take len (drop offset ys)
+take_within offset len end xs ys le e = sym (front offset len end xs le) ∙ ap (λ (t : List ℕ). take len (drop offset t)) e ∙ front offset len end ys le where
+  head : (len end : ℕ) (xs : List ℕ) → len ≤ end → take len (take end xs) ≡ take len xs
+  head zero end xs le = refl
+  head (suc len) zero xs le = absurd (omega arith)
+  head (suc len) (suc end) [] le = refl
+  head (suc len) (suc end) (x ∷ xs) le = ap (λ (t : List ℕ). x ∷ t) (head len end xs (omega arith))
+  front : (offset len end : ℕ) (xs : List ℕ) → offset + len ≤ end → take len (drop offset (take end xs)) ≡ take len (drop offset xs)
+  front zero len end xs le = head len end xs (omega arith)
+  front (suc offset) len zero xs le = absurd (omega arith)
+  front (suc offset) len (suc end) [] le = refl
+  front (suc offset) len (suc end) (x ∷ xs) le = front offset len end xs (omega arith)
 
 -- what was found names the same bytes where stripes grow
 pub found_same : (contents new : Contents) (held : List HeldUse) (found : Found) → SameIn held contents new → FoundLies held found → SameFound contents new found

@@ -3,3 +3,5 @@ pub mod Missing
 pub mod Moving
 pub mod Others
 pub mod Moves
+pub mod Rising
+pub mod Storing

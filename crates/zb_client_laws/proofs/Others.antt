@@ -192,9 +192,9 @@ module _ (slots : ℕ) (w : Around) (seen : Tree) (c : SeenClient) (a : IsAround
     step_later (step.Fetch basis at ptr plan) h =
         (work_later c.kept c.queue basis h.0, reading_moves w.z w.contents New w.st.maps w.st.maps w.tables.held Later ptr plan
         (let l = a.limits.servers_low in omega arith) (let l = a.limits.fragment_low in omega arith) same on h.1)
-    step_later (step.Store basis formed) h = batch_later (run_of c.kept) basis h
+    step_later (step.Store basis formed) h = (batch_later (run_of c.kept) basis h.0, h.1)
     step_later (step.Mark server generation) h = h
-    step_later (step.Commit basis sealed) h = batch_later (run_of c.kept) basis h
+    step_later (step.Commit basis sealed) h = (batch_later (run_of c.kept) basis h.0, h.1)
 
     pub commit_beside : ClientIsSound (after_commit w flush number pieces after tree) seen c
     commit_beside = record {

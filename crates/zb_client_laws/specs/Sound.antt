@@ -1,9 +1,10 @@
 -- What is true of a client in a sound world.
-use Rattle.std.specs.Prelude.{◌≡◌, List, ◌∷◌}
+use Rattle.std.specs.Prelude.{◌≡◌, List, ◌∷◌, None}
 use Rattle.zb_types.specs.Tree.{Tree}
 use Rattle.zb_sound.specs.OldStripes.{CopiesAreCurrent}
 use Rattle.zb_basis.specs.Runs.{run_of}
 use Rattle.zb_forming_laws.specs.Resting.{AreShort}
+use Rattle.zb_work.specs.Blocks.{next_missing}
 use Rattle.zb_work.specs.declared.work.Step.{Step}
 use Rattle.zb_work.specs.declared.work.Step.TheVariants as step
 use Rattle.zb_work.specs.Steps.{step_of}
@@ -13,14 +14,14 @@ use Rattle.zb_client_laws.specs.Known.{HasSizes}
 use Rattle.zb_client_laws.specs.Logging.{LogIsAtWork}
 use Rattle.zb_client_laws.specs.Current.{BatchIsCurrent, IsReading, WorkIsCurrent}
 
--- what the step at hand rests on is current; no server is to be marked, since none stops
+-- what the step at hand rests on is current, and no block that a formed batch wants is missing; no server is to be marked, since none stops
 abbrev pub StepIsCurrent : Around → Tree → SeenClient → Step → Type 0
 StepIsCurrent w seen c step.Lookup = Unit {0}
 StepIsCurrent w seen c (step.Fetch basis at ptr plan) =
     WorkIsCurrent w.z.block w.contents w.tables seen c.kept c.queue basis × IsReading w.z w.contents w.st.maps w.tables.held ptr plan
-StepIsCurrent w seen c (step.Store basis formed) = BatchIsCurrent w.z.block w.contents w.tables (run_of c.kept) basis
+StepIsCurrent w seen c (step.Store basis formed) = BatchIsCurrent w.z.block w.contents w.tables (run_of c.kept) basis × (next_missing basis.fetched ≡ None)
 StepIsCurrent w seen c (step.Mark server generation) = ⊥
-StepIsCurrent w seen c (step.Commit basis sealed) = BatchIsCurrent w.z.block w.contents w.tables (run_of c.kept) basis
+StepIsCurrent w seen c (step.Commit basis sealed) = BatchIsCurrent w.z.block w.contents w.tables (run_of c.kept) basis × (next_missing basis.fetched ≡ None)
 
 -- A client in a sound world: its log is the one of the tables, with what stands of its last flush; what it has looked up,
 -- fetched and cached is current, a read's lookup being of the tree `seen`; and no batch of it is in doubt.

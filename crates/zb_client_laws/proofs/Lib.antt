@@ -5,3 +5,5 @@ pub mod Others
 pub mod Moves
 pub mod Rising
 pub mod Storing
+pub mod Lasting
+pub mod Delivered

@@ -1,5 +1,5 @@
 -- A client whose batch is stored, and isn't committed yet.
-use Rattle.std.proofs.Common.{◌≡◌, ℕ, ◌+◌, ◌-◌, ◌*◌, ◌^◌, ◌≤◌, ◌<◌, min, Bool, true, false, List, [], ◌∷◌, ◌++◌, length, Option, Some, None, refl, sym, ap, ◌∙◌, subst, arith}
+use Rattle.std.proofs.Common.{◌≡◌, ℕ, ◌+◌, ◌-◌, ◌*◌, ◌≤◌, ◌<◌, true, false, List, [], ◌++◌, length, Option, None, refl, sym, ap, ◌∙◌, subst, arith}
 use Rattle.std.specs.Prelude.{IsSomeAnd, nat_lt}
 use Rattle.std.specs.List.{AllByRecursion, concat}
 use Rattle.zb_types.specs.declared.ids.LogId.{LogId}
@@ -16,14 +16,13 @@ use Rattle.zb_stripe_laws.specs.PartAtWork.{StripesDiffer}
 use Rattle.zb_stripe_laws.proofs.Plans.{rise_differ}
 use Rattle.zb_stripe.specs.Fresh.{AreFresh, IsFreshFlush}
 use Rattle.zb_log.specs.declared.places.Place.{Place}
-use Rattle.zb_log.specs.Logs.{AreGiven, SeenLog, bytes_with, end_with, gone_on, last_of}
+use Rattle.zb_log.specs.Logs.{AreGiven, SeenLog, bytes_with, end_with, gone_on}
 use Rattle.zb_log.specs.Places.{place}
 use Rattle.zb_log.specs.Sealing.{GoesNext, IsPartOf}
 use Rattle.zb_log.proofs.Parting.{given_on}
 use Rattle.zb_batch.specs.declared.batch.Batch.{Batch}
 use Rattle.zb_batch.specs.Spelling.{spelling_of_batch}
 use Rattle.zb_entries.specs.declared.entry.Entry.TheVariants.{Commit}
-use Rattle.zb_tables.specs.Checkpoint.{AreTables}
 use Rattle.zb_tables.specs.Fold.{Shelf, committed, held_with_all, last_of as last_piece}
 use Rattle.zb_tables.specs.Replay.{with_entry}
 use Rattle.zb_tables.specs.Shown.{replies_through, tree_through}
@@ -67,7 +66,7 @@ use Rattle.zb_client.specs.Hearing.{commits, hears_outdated, tried}
 use Rattle.zb_client_laws.specs.Around.{Around, IsAround, at_rest}
 use Rattle.zb_client_laws.specs.Effects.{IsCommit, after_commit}
 use Rattle.zb_client_laws.specs.Known.{IsKnown}
-use Rattle.zb_client_laws.specs.Logging.{HasEnded, HasPhase, IsDelivered, RestsAt, delivers, flush_of}
+use Rattle.zb_client_laws.specs.Logging.{HasPhase, IsDelivered, RestsAt, delivers, flush_of}
 use Rattle.zb_client_laws.specs.Sound.{ClientIsSound, StepIsCurrent}
 use Rattle.zb_client_laws.proofs.Lasting.{LastPart, all_there, last_part, looks_again, next_looks, number_below, only_last, same_parts, short_drop, short_run, zip_some}
 use Rattle.zb_client_laws.proofs.Moving.{founds_same}
@@ -110,11 +109,14 @@ module _ (w : Around) (seen : Tree) (c : SeenClient) (s : ClientIsSound w seen c
       subst (λ (l : LogId). LastFlush w.z w.contents w.st w.tables.held (allowed w.tables.members) l s.log.front (delivers delivered.was [])) log_is
       (subst (λ (p : Phase). LastFlush w.z w.contents w.st w.tables.held (allowed w.tables.members) c.log.log s.log.front p) delivered.phase_is s.log.flush)
 
-  pub is : IsFormed w.z.servers w.z.fragment w.z.block Former c.batch (first_members basis.found) (run_of c.kept) basis Whole
-  is = delivered.was.is
+  abbrev pub Is : IsFormed w.z.servers w.z.fragment w.z.block Former c.batch (first_members basis.found) (run_of c.kept) basis Whole
+  Is = delivered.was.is
 
-  pub stored : IsStored w.z.servers w.z.fragment Former Whole.sealed.placed (spelling_of_batch Whole.sealed.batch ++ concat delivered.was.is.blocks) delivered.was.is.blocks (writers_out (first_members basis.found).state) Whole.fresh Whole.plan Given
-  stored = delivered.was.is.stored Given delivered.was.are
+  abbrev pub Are : AreGiven Former Given
+  Are = delivered.was.are
+
+  pub stored : IsStored w.z.servers w.z.fragment Former Whole.sealed.placed (spelling_of_batch Whole.sealed.batch ++ concat Is.blocks) Is.blocks Out Whole.fresh Whole.plan Given
+  stored = Is.stored Given Are
 
   -- ---- the last part
 
@@ -122,7 +124,7 @@ module _ (w : Around) (seen : Tree) (c : SeenClient) (s : ClientIsSound w seen c
   last =
       last_part Stored.parts
       (zip_some IsPartOf Whole.sealed.placed.pieces Stored.parts stored.pieces
-      (some-piece w.z.servers w.z.fragment w.z.block Former c.batch (first_members basis.found) (run_of c.kept) basis Whole delivered.was.is Given delivered.was.are))
+      (some-piece w.z.servers w.z.fragment w.z.block Former c.batch (first_members basis.found) (run_of c.kept) basis Whole Is Given Are))
 
   abbrev pub Last : Part
   Last = last.part
@@ -136,13 +138,13 @@ module _ (w : Around) (seen : Tree) (c : SeenClient) (s : ClientIsSound w seen c
 
   fresh_is : IsFreshFlush Former.servers Former.fragment Stored Whole.fresh
   fresh_is =
-      let own = delivered.was.is.is_sealed in
-      let first = own.parts Given delivered.was.are in
+      let own = Is.is_sealed in
+      let first = own.parts Given Are in
       record {
         log = first.log;
         parts = subst (λ (ps : List Part). AreFresh Former.servers Former.fragment ps Whole.fresh.parts)
             (same_parts w.z.servers w.z.fragment Former.servers Former.fragment Former.next.stripe Given Whole.sealed.placed.pieces
-            (spelling_of_batch Whole.sealed.batch ++ concat delivered.was.is.blocks) (own.meta ++ concat own.blocks) Whole.fresh.parts stored.is_fresh.parts first.parts) first.parts;
+            (spelling_of_batch Whole.sealed.batch ++ concat Is.blocks) (own.meta ++ concat own.blocks) Whole.fresh.parts stored.is_fresh.parts first.parts) first.parts;
       }
 
   -- whose bytes it gave
@@ -150,7 +152,7 @@ module _ (w : Around) (seen : Tree) (c : SeenClient) (s : ClientIsSound w seen c
   given_now =
       subst (λ (l : SeenLog). AreGiven l Last.bytes) (sym delivered.goes_on)
       (subst (λ (o : Option Part). AreGiven (gone_on Former Whole.sealed.placed.next Whole.fresh.parts) (bytes_with Given o)) last.found
-      (given_on Former Whole.sealed.placed.next Given Stored Whole.fresh delivered.was.are fresh_is stored.end))
+      (given_on Former Whole.sealed.placed.next Given Stored Whole.fresh Are fresh_is stored.end))
 
   pub above_last : s.log.at ≤ Last.stripe
   above_last =
@@ -207,13 +209,13 @@ module _ (w : Around) (seen : Tree) (c : SeenClient) (s : ClientIsSound w seen c
 
   module _ (slots : ℕ) (a : IsAround slots w) (known : IsKnown c) where
     abbrev New : Contents
-    New = contents_with w.contents Former Given Whole delivered.was.is.blocks
+    New = contents_with w.contents Former Given Whole Is.blocks
 
     abbrev Pieces : List Piece
     Pieces = Whole.sealed.placed.pieces
 
-    abbrev Stands : Batch
-    Stands = Whole.sealed.batch
+    abbrev Made : Batch
+    Made = Whole.sealed.batch
 
     differ : StripesDiffer Stored.parts
     differ = rise_differ Stored.parts standing.stands.rise
@@ -246,9 +248,9 @@ module _ (w : Around) (seen : Tree) (c : SeenClient) (s : ClientIsSound w seen c
     short : AreShort (run_of c.kept)
     short = short_run c.kept s.short
 
-    may : MayCommit w.z w.tables Stands Pieces
+    may : MayCommit w.z w.tables Made Pieces
     may =
-        may-commit w.z slots Former c.batch (first_members basis.found) (run_of c.kept) basis Whole Given w.contents a.limits delivered.was.is delivered.was.are
+        may-commit w.z slots Former c.batch (first_members basis.found) (run_of c.kept) basis Whole Given w.contents a.limits Is Are
         room_is block_is short fetched c.kept refl w.tables next
 
     pub may_sealed : MayCommit w.z w.tables sealed.batch sealed.placed.pieces
@@ -257,36 +259,36 @@ module _ (w : Around) (seen : Tree) (c : SeenClient) (s : ClientIsSound w seen c
     -- ---- it is committed
 
     module _ (refused : commit_refusal w.z.block w.tables sealed.batch sealed.placed.pieces sealed.members.generation ≡ None) where
-      taken : commit_refusal w.z.block w.tables Stands Pieces sealed.members.generation ≡ None
+      taken : commit_refusal w.z.block w.tables Made Pieces sealed.members.generation ≡ None
       taken = subst (λ (x : Sealed). commit_refusal w.z.block w.tables x.batch x.placed.pieces sealed.members.generation ≡ None) delivered.sealed_is refused
 
       lie_in : AreInFlush Stored Pieces
-      lie_in = pieces-in w.z.servers w.z.fragment w.z.block Former c.batch (first_members basis.found) (run_of c.kept) basis Whole delivered.was.is Given delivered.was.are
+      lie_in = pieces-in w.z.servers w.z.fragment w.z.block Former c.batch (first_members basis.found) (run_of c.kept) basis Whole Is Given Are
 
-      flushed : IsFlushed w.z w.contents New w.st w.tables Former.log c.batch sealed.members.generation Pieces Stands
+      flushed : IsFlushed w.z w.contents New w.st w.tables Former.log c.batch sealed.members.generation Pieces Made
       flushed =
-          ended_flushed w.z w.contents (at_rest w.tables) w.st w.tables w.tree s.log.front Out Client Stored c.batch sealed.members.generation Pieces Stands a.stands standing lie_in
-          (batch-spelled w.z.servers w.z.fragment w.z.block Former c.batch (first_members basis.found) (run_of c.kept) basis Whole delivered.was.is Given delivered.was.are w.contents known.numbered)
+          ended_flushed w.z w.contents (at_rest w.tables) w.st w.tables w.tree s.log.front Out Client Stored c.batch sealed.members.generation Pieces Made a.stands standing lie_in
+          (batch-spelled w.z.servers w.z.fragment w.z.block Former c.batch (first_members basis.found) (run_of c.kept) basis Whole Is Given Are w.contents known.numbered)
           may taken
-          (ops-lie w.z.servers w.z.fragment w.z.block Former c.batch (first_members basis.found) (run_of c.kept) basis Whole delivered.was.is w.tables.next_entry w.tables.held)
+          (ops-lie w.z.servers w.z.fragment w.z.block Former c.batch (first_members basis.found) (run_of c.kept) basis Whole Is w.tables.next_entry w.tables.held)
 
-      rests_on : Rests w.z.block New w.tables (run_of c.kept) basis Whole.sealed.placed.ptrs delivered.was.is.blocks
+      rests_on : Rests w.z.block New w.tables (run_of c.kept) basis Whole.sealed.placed.ptrs Is.blocks
       rests_on = record {
         short = short;
         current = all-grown w.z.block (run_of c.kept) basis.found w.contents New w.tables (founds_same w.contents New w.tables.held basis.found same current.0.rests.lie) same
             a.stands.says.points current.0.current;
         fetched = fetched;
-        stand = blocks-stand w.z.servers w.z.fragment w.z.block Former c.batch (first_members basis.found) (run_of c.kept) basis Whole delivered.was.is Given delivered.was.are w.contents;
+        stand = blocks-stand w.z.servers w.z.fragment w.z.block Former c.batch (first_members basis.found) (run_of c.kept) basis Whole Is Given Are w.contents;
       }
 
       pos : 0 < w.z.block
       pos = let low = a.limits.block_low in omega arith
 
-      takes : TakesTree w.z w.contents New (at_rest w.tables) w.st Former.log c.batch sealed.members.generation Pieces Stands w.tables w.tree (updates_of (run_of c.kept))
+      takes : TakesTree w.z w.contents New (at_rest w.tables) w.st Former.log c.batch sealed.members.generation Pieces Made w.tables w.tree (updates_of (run_of c.kept))
       takes =
-          commit_takes w.z w.contents New (at_rest w.tables) w.st Former.log c.batch sealed.members.generation Pieces Stands pos w.tables w.tree a.stands flushed (updates_of (run_of c.kept))
-          (of-updates w.z New w.tables (run_of c.kept) basis Former.log c.batch Stands Whole.sealed.placed.ptrs delivered.was.is.blocks pos
-          (said_tables w.z w.contents (at_rest w.tables) w.tables w.tree a.stands.says) a.stands.says.ends delivered.was.is.is_batch rests_on sealed.members.generation Pieces c.kept refl taken)
+          commit_takes w.z w.contents New (at_rest w.tables) w.st Former.log c.batch sealed.members.generation Pieces Made pos w.tables w.tree a.stands flushed (updates_of (run_of c.kept))
+          (of-updates w.z New w.tables (run_of c.kept) basis Former.log c.batch Made Whole.sealed.placed.ptrs Is.blocks pos
+          (said_tables w.z w.contents (at_rest w.tables) w.tables w.tree a.stands.says) a.stands.says.ends Is.is_batch rests_on sealed.members.generation Pieces c.kept refl taken)
 
       abbrev After : Shelf
       After = takes.commits.after
@@ -294,14 +296,14 @@ module _ (w : Around) (seen : Tree) (c : SeenClient) (s : ClientIsSound w seen c
       abbrev Then : Around
       Then = after_commit w Stored c.batch Pieces After (tree_through w.tree (updates_of (run_of c.kept)))
 
-      is_commit : IsCommit w Stored Pieces Stands After
+      is_commit : IsCommit w Stored Pieces Made After
       is_commit = record {
         differ = differ;
         fits = standing.stands.works.fits;
         pieces_lie = lie_in;
-        updates = batch-kinds w.z.block New w.tables (run_of c.kept) basis Former.log c.batch Stands Whole.sealed.placed.ptrs delivered.was.is.blocks delivered.was.is.is_batch rests_on;
+        updates = batch-kinds w.z.block New w.tables (run_of c.kept) basis Former.log c.batch Made Whole.sealed.placed.ptrs Is.blocks Is.is_batch rests_on;
         done = takes.commits.done;
-        fresh = (taken-fresh w.z.block w.tables Stands Pieces sealed.members.generation taken).0;
+        fresh = (taken-fresh w.z.block w.tables Made Pieces sealed.members.generation taken).0;
       }
 
       around_then : IsAround slots Then
@@ -349,8 +351,8 @@ module _ (w : Around) (seen : Tree) (c : SeenClient) (s : ClientIsSound w seen c
 
       batch_is : Client_then.batch - 1 ≡ c.batch
       batch_is =
-          let below = number_below w.z.block w.tables Stands Pieces sealed.members.generation taken in
-          let number = delivered.was.is.is_batch.numbered in
+          let below = number_below w.z.block w.tables Made Pieces sealed.members.generation taken in
+          let number = Is.is_batch.numbered in
           omega arith
 
       look_then : step_of Client_then.task ≡ step.Lookup
@@ -387,4 +389,4 @@ module _ (w : Around) (seen : Tree) (c : SeenClient) (s : ClientIsSound w seen c
       pub commit_sound : Leaves sealed
       commit_sound =
           subst Leaves (sym delivered.sealed_is)
-          (Stored, After, sym log_is, is_commit, delivered.was.is.is_batch.numbered, delivered.was.is.is_batch.of_log ∙ sym log_is, takes.replies, around_then, sound_then)
+          (Stored, After, sym log_is, is_commit, Is.is_batch.numbered, Is.is_batch.of_log ∙ sym log_is, takes.replies, around_then, sound_then)

@@ -1,7 +1,7 @@
 -- The last part of a flush, what is new of one, the blocks that are there, and the calls of a run.
-use Rattle.std.proofs.Common.{◌≡◌, ℕ, zero, suc, ◌+◌, ◌-◌, ◌<◌, ◌≤◌, Bool, true, false, List, [], ◌∷◌, ◌++◌, length, length-append, get_or, take, drop, map, Option, Some, None, refl, sym, ap, ◌∙◌, arith, drop_at}
+use Rattle.std.proofs.Common.{◌≡◌, ℕ, zero, suc, ◌-◌, ◌≤◌, Bool, true, false, List, [], ◌∷◌, ◌++◌, length, length-append, get_or, take, drop, Option, Some, None, refl, sym, ap, ◌∙◌, arith, drop_at}
 use Rattle.std.specs.Prelude.{if◌then◌else◌, nat_le, nat_lt, slice_get}
-use Rattle.std.specs.List.{AllByRecursion, AllZip}
+use Rattle.std.specs.List.{AllZip}
 use Rattle.std.proofs.lemmas.Bool.{cond_both, ltb-false}
 use Rattle.std.proofs.lemmas.Option.{none-some}
 use Rattle.zb_types.specs.declared.ids.Piece.{Piece}
@@ -24,7 +24,6 @@ use Rattle.zb_basis.specs.Runs.{company, is_alone, run_of}
 use Rattle.zb_forming_laws.specs.Resting.{AreShort, pairs_of}
 use Rattle.zb_work.specs.declared.work.Aim.{Aim}
 use Rattle.zb_work.specs.declared.work.Aim.TheVariants.{Update, Read, Finish}
-use Rattle.zb_work.specs.declared.work.Step.{Step}
 use Rattle.zb_work.specs.declared.work.Step.TheVariants as step
 use Rattle.zb_work.specs.declared.work.Task.{Task}
 use Rattle.zb_work.specs.Blocks.{is_missing, next_missing, shifted, there}

@@ -1,13 +1,11 @@
 -- A client whose batch is being stored.
-use Rattle.std.proofs.Common.{◌≡◌, ℕ, zero, suc, ◌+◌, ◌-◌, ◌≤◌, max, Bool, true, false, List, [], ◌∷◌, ◌++◌, Option, Some, None, refl, sym, ap, ◌∙◌, subst, arith}
+use Rattle.std.proofs.Common.{◌≡◌, ℕ, zero, suc, ◌+◌, ◌-◌, ◌≤◌, max, true, false, List, [], ◌∷◌, ◌++◌, Option, Some, None, refl, sym, ap, ◌∙◌, subst, arith}
 use Rattle.std.specs.Prelude.{IfSome, slice_get, take}
-use Rattle.std.specs.List.{AllByRecursion}
 use Rattle.std.proofs.lemmas.Option.{none-some, same_Some}
 use Rattle.zb_types.specs.declared.ids.ServerId.{ServerId}
 use Rattle.zb_types.specs.declared.nodes.Cause.{Cause}
 use Rattle.zb_types.specs.declared.nodes.Cause.TheVariants.{NoSpace}
 use Rattle.zb_types.specs.declared.nodes.Class.TheVariants.{Client}
-use Rattle.zb_types.specs.declared.lines.Said.{Said}
 use Rattle.zb_types.specs.declared.lines.Said.TheVariants as said
 use Rattle.zb_types.specs.declared.requests.Request.{Request}
 use Rattle.zb_types.specs.declared.requests.Response.{Response}
@@ -15,14 +13,11 @@ use Rattle.zb_types.specs.declared.requests.Response.TheVariants as told
 use Rattle.zb_types.specs.declared.requests.StoreFault.TheVariants as fault
 use Rattle.zb_types.specs.Tree.{Tree}
 use Rattle.zb_stripe.specs.declared.flush.Flush.{Flush}
-use Rattle.zb_stripe.specs.declared.write_plan.Fed.{Fed}
-use Rattle.zb_stripe.specs.declared.write_plan.Fed.TheVariants as fed
 use Rattle.zb_stripe.specs.Feeding.{fed_by, left_after}
-use Rattle.zb_stripe.specs.Writing.{plan_requests}
 use Rattle.zb_log.specs.Logs.{SeenLog, gone_on}
 use Rattle.zb_recovery.specs.Missing.{Servers}
 use Rattle.zb_sound.specs.Delivering.{after_asked, allowed}
-use Rattle.zb_sound.specs.LastFlush.{FindsItsPlace, LastFlush, Phase, flushing, stripe_of as changed_stripe}
+use Rattle.zb_sound.specs.LastFlush.{FindsItsPlace, LastFlush, Phase, stripe_of as changed_stripe}
 use Rattle.zb_sound.specs.LogsCurrent.{LogIsCurrent}
 use Rattle.zb_sound.specs.Standing.{seen as viewed}
 use Rattle.zb_sound.proofs.Currents.{moved_current}
@@ -192,16 +187,16 @@ module _ (w : Around) (seen : Tree) (c : SeenClient) (s : ClientIsSound w seen c
             reached = subst (λ (rs : Requests). IfSome (head_of (left_after rs told.Done)) (λ r. Front ≤ stripe_of r.1 + 1)) (sym plan) below;
           })
           current where
-        here : s.log.front ≤ stripe_of asked.1 + 1
-        here = subst (λ (rs : Requests). IfSome (head_of rs) (λ r. s.log.front ≤ stripe_of r.1 + 1)) plan delivering.reached
+            here : s.log.front ≤ stripe_of asked.1 + 1
+            here = subst (λ (rs : Requests). IfSome (head_of rs) (λ r. s.log.front ≤ stripe_of r.1 + 1)) plan delivering.reached
 
-        below : Front ≤ stripe_of q.1 + 1
-        below =
-            let up = plan_up w.z.servers w.z.fragment Out Client Stored standing.stands.done asked q rest standing.stands.rise
-            (standing.stands.all ∙ ap (λ (rs : Requests). standing.stands.done ++ rs) plan) in
-            let same = same_stripe asked.1 in
-            let own = here in
-            omega (arith, up, same, own)
+            below : Front ≤ stripe_of q.1 + 1
+            below =
+                let up = plan_up w.z.servers w.z.fragment Out Client Stored standing.stands.done asked q rest standing.stands.rise
+                (standing.stands.all ∙ ap (λ (rs : Requests). standing.stands.done ++ rs) plan) in
+                let same = same_stripe asked.1 in
+                let own = here in
+                omega (arith, up, same, own)
 
       -- the client stays sound, and tells nothing
       abbrev Goes : Heard → Type 0

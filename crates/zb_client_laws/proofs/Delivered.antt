@@ -68,7 +68,8 @@ use Rattle.zb_client_laws.specs.Effects.{IsCommit, after_commit}
 use Rattle.zb_client_laws.specs.Known.{IsKnown}
 use Rattle.zb_client_laws.specs.Logging.{HasPhase, IsDelivered, RestsAt, delivers, flush_of}
 use Rattle.zb_client_laws.specs.Sound.{ClientIsSound, StepIsCurrent}
-use Rattle.zb_client_laws.proofs.Lasting.{LastPart, all_there, last_part, looks_again, next_looks, number_below, only_last, same_parts, short_drop, short_run, zip_some}
+use Rattle.zb_client_laws.proofs.Blocks.{all_there}
+use Rattle.zb_client_laws.proofs.Lasting.{LastPart, last_part, looks_again, next_looks, number_below, only_last, same_parts, short_drop, short_run, zip_some}
 use Rattle.zb_client_laws.proofs.Moving.{founds_same}
 
 module _ (w : Around) (seen : Tree) (c : SeenClient) (s : ClientIsSound w seen c) (basis : Basis) (sealed : Sealed) (e : step_of c.task ≡ step.Commit basis sealed) where

@@ -1,11 +1,10 @@
--- The last part of a flush, what is new of one, the blocks that are there, and the calls of a run.
+-- The last part of a flush, what is new of one, the calls of a run, and the number of a batch.
 use Rattle.std.proofs.Common.{◌≡◌, ℕ, zero, suc, ◌-◌, ◌≤◌, Bool, true, false, List, [], ◌∷◌, ◌++◌, length, length-append, get_or, take, drop, Option, Some, None, refl, sym, ap, ◌∙◌, arith, drop_at}
 use Rattle.std.specs.Prelude.{if◌then◌else◌, nat_le, nat_lt, slice_get}
 use Rattle.std.specs.List.{AllZip}
 use Rattle.std.proofs.lemmas.Bool.{cond_both, ltb-false}
 use Rattle.std.proofs.lemmas.Option.{none-some}
 use Rattle.zb_types.specs.declared.ids.Piece.{Piece}
-use Rattle.zb_types.specs.declared.ids.Ptr.{Ptr}
 use Rattle.zb_types.specs.declared.tables.CommitFault.{CommitFault}
 use Rattle.zb_types.specs.declared.tables.CommitFault.TheVariants.{Worn}
 use Rattle.zb_stripe.specs.declared.flush.Fresh.{Fresh}
@@ -18,15 +17,13 @@ use Rattle.zb_tables.specs.Fold.{done_ops, shelf_of}
 use Rattle.zb_tables.specs.Tables.{Tables, last_value}
 use Rattle.zb_tables.specs.Taking.{any_wears, commit_refusal, or_else, regen_of, stale_of, worn_of}
 use Rattle.zb_sound.specs.LastFlush.{IsLastOf}
-use Rattle.zb_basis.specs.declared.basis.Fetched.{Fetched}
 use Rattle.zb_basis.specs.declared.calls.Numbered.{Numbered}
 use Rattle.zb_basis.specs.Runs.{company, is_alone, run_of}
-use Rattle.zb_forming_laws.specs.Resting.{AreShort, pairs_of}
+use Rattle.zb_forming_laws.specs.Resting.{AreShort}
 use Rattle.zb_work.specs.declared.work.Aim.{Aim}
 use Rattle.zb_work.specs.declared.work.Aim.TheVariants.{Update, Read, Finish}
 use Rattle.zb_work.specs.declared.work.Step.TheVariants as step
 use Rattle.zb_work.specs.declared.work.Task.{Task}
-use Rattle.zb_work.specs.Blocks.{is_missing, next_missing, shifted, there}
 use Rattle.zb_work.specs.Steps.{next_task, step_of, with_step}
 
 -- ---- parts
@@ -76,22 +73,6 @@ same_parts n f m g w given (piece ∷ pieces) new other (one ∷ fresh) a b =
     sym (drop_at before (take piece.len other) (length before) refl) ∙ sym b.0.bytes ∙ a.0.bytes ∙ drop_at before (take piece.len new) (length before) refl in
     ap (λ (bytes : List ℕ). part_of before piece bytes ∷ parts_of w given pieces (drop piece.len other)) own
     ∙ ap (λ (ps : List Part). part_of before piece (take piece.len new) ∷ ps) (same_parts n f m g w given pieces (drop piece.len new) (drop piece.len other) fresh a.1 b.1)
-
--- ---- blocks
-
-none_shifted : (found : Option (ℕ × Ptr)) → shifted 1 found ≡ None → found ≡ None
-none_shifted None e = refl
-none_shifted (Some m) e = absurd (none-some _ (sym e))
-
-all_there_by : (block : Fetched) (blocks : List Fetched) (t : Bool) → (if t then Some (0, block.ptr) else shifted 1 (next_missing blocks)) ≡ None → (next_missing blocks ≡ None → there blocks ≡ pairs_of blocks)
-    → (if t then there blocks else (block.ptr, block.bytes) ∷ there blocks) ≡ (block.ptr, block.bytes) ∷ pairs_of blocks
-all_there_by block blocks true missing more = absurd (none-some (0, block.ptr) (sym missing))
-all_there_by block blocks false rest more = ap (λ (bs : List (Ptr × List ℕ)). (block.ptr, block.bytes) ∷ bs) (more (none_shifted (next_missing blocks) rest))
-
--- where no block is missing, all are there
-pub all_there : (blocks : List Fetched) → next_missing blocks ≡ None → there blocks ≡ pairs_of blocks
-all_there [] e = refl
-all_there (block ∷ blocks) e = all_there_by block blocks (is_missing block) e (λ rest. all_there blocks rest)
 
 -- ---- calls
 

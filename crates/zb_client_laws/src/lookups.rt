@@ -33,8 +33,8 @@ pub fn lookups_are_sound()
         → c.task ≡ Some task → task.step ≡ step.Lookup → lookup_of c task.tries c.kept ≡ Files hold asks
         → HearsLookup c (answer.Found (founds w.tables asks)) heard
         → ClientIsSound w w.tree heard.client × TellsRight w.tree c heard }
-    ensures named { (w : Around) (seen : Tree) (c : SeenClient) (task : Task) (call : Call) (reply : Reply) (heard : Heard)
-        → ClientIsSound w seen c
+    ensures named { (slots : ℕ) (w : Around) (seen : Tree) (c : SeenClient) (task : Task) (call : Call) (reply : Reply) (heard : Heard)
+        → IsAround slots w → IsKnown c → ClientIsSound w seen c
         → c.task ≡ Some task → task.step ≡ step.Lookup → lookup_of c task.tries c.kept ≡ Names call
         → reply ≡ reply_to w.tree call → heard ≡ answers_read c (said.Reply reply)
         → ClientIsSound w seen heard.client × TellsRight w.tree c heard }

@@ -3,6 +3,10 @@ pub mod Missing
 pub mod Moving
 pub mod Others
 pub mod Moves
+pub mod Rising
+pub mod Storing
+pub mod Lasting
+pub mod Delivered
 pub mod Caching
 pub mod Starts
 pub mod Resting

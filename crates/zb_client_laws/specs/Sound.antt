@@ -1,5 +1,5 @@
 -- What is true of a client in a sound world.
-use Rattle.std.specs.Prelude.{◌≡◌, List, ◌∷◌, None}
+use Rattle.std.specs.Prelude.{◌≡◌, None}
 use Rattle.zb_types.specs.Tree.{Tree}
 use Rattle.zb_sound.specs.OldStripes.{CopiesAreCurrent}
 use Rattle.zb_basis.specs.Runs.{run_of}

@@ -1,5 +1,5 @@
 use Rattle.zb_server.proofs.Served.{may_serve}
-use Rattle.zb_store_tests.proofs.node.Bench.serve.Goals as goal
+use Rattle.zb_stripe_tests.proofs.node.Bench.serve.Goals as goal
 
 pub serve-response-requires : goal.serve-response-requires
 serve-response-requires c = record {

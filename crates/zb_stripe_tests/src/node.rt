@@ -2,7 +2,6 @@ ghost use Rattle.std.specs.Prelude.{◌≡◌, IfOk};
 ghost use Rattle.zb_types.specs.declared.geometry.Geometry.{Geometry as SeenGeometry};
 ghost use Rattle.zb_server.specs.Asking.{FitsSystem};
 
-use crate::system::system;
 use std::alloc::Global;
 use std::marker::Model;
 use std::test::Fail;
@@ -136,7 +135,7 @@ impl Bench {
     // A node that is down, on a platter that leaves these images at its restarts.
     fn new(alloc: Global, choices: &[u8]) -> Result<Bench, Fail> {
         Ok(Bench {
-            geo: system()?,
+            geo: Geometry::new(3, 1, 256, 64, 8)?,
             server: ServerId(1),
             bay: Fused::new(MemOutside::new(alloc, b"", choices, &[])?),
             node: Server::Down,

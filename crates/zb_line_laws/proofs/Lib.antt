@@ -1,0 +1,2 @@
+-- Lemmas on the lines of clients.
+pub mod Taking

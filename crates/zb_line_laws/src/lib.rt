@@ -1,0 +1,7 @@
+//! What the steps of a client's machine tell fits what the client was given, and its calls stay those. Definitions and
+//! their laws alone.
+#![tactic(auto)]
+
+mod taken;
+
+pub use taken::taken_calls_fit;

@@ -1,2 +1,3 @@
 -- Lemmas on the lines of clients.
 pub mod Taking
+pub mod Replying

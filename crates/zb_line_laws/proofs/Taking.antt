@@ -1,6 +1,6 @@
 -- The first queued call is taken.
-use Rattle.std.proofs.Common.{◌≡◌, ℕ, zero, suc, ◌+◌, ◌<◌, ◌≤◌, Bool, true, false, List, [], ◌∷◌, ◌++◌, append-nil, length, length-append, Option, Some, None, refl, sym, ap, ◌∙◌, subst, inl, inr, arith}
-use Rattle.std.specs.Prelude.{◌&&◌, if◌then◌else◌, map, nat_le, nat_lt}
+use Rattle.std.proofs.Common.{◌≡◌, ℕ, suc, ◌+◌, ◌≤◌, Bool, true, false, List, [], ◌∷◌, ◌++◌, append-nil, length, length-append, Option, Some, None, refl, sym, ap, ◌∙◌, subst, arith}
+use Rattle.std.specs.Prelude.{◌&&◌, if◌then◌else◌, nat_lt}
 use Rattle.std.specs.List.{AllByRecursion}
 use Rattle.std.proofs.lemmas.Bool.{and_parts, ltb-false, ltb-true}
 use Rattle.zb_types.specs.Apply.{is_bufferable, is_update}
@@ -15,7 +15,6 @@ use Rattle.zb_given.proofs.Adding.{adds_buffered}
 use Rattle.zb_given.proofs.Standing.{buffers, takes}
 use Rattle.zb_basis.specs.declared.calls.Numbered.{Numbered}
 use Rattle.zb_basis.proofs.Each.{each-append}
-use Rattle.zb_work.specs.declared.work.Aim.{Aim}
 use Rattle.zb_work.specs.declared.work.Aim.TheVariants.{Update, Read}
 use Rattle.zb_work.specs.declared.work.Task.{Task}
 use Rattle.zb_work.specs.Steps.{aim_of, new_task}

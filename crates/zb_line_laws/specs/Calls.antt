@@ -5,8 +5,8 @@ use Rattle.zb_types.specs.declared.calls.Reply.{Reply}
 use Rattle.zb_types.specs.declared.history.Did.{Did}
 use Rattle.zb_types.specs.declared.lines.Outcome.{Outcome}
 use Rattle.zb_types.specs.declared.nodes.Node.TheVariants.{Manager}
-use Rattle.zb_claims.specs.Points.{call_of}
-use Rattle.zb_given.specs.Given.{Given, FitGiven, calls_of, script_of}
+use Rattle.zb_claims.specs.Points.{call_of, crashes, is_event}
+use Rattle.zb_given.specs.Given.{Given, calls_of, script_of}
 use Rattle.zb_given.specs.Queues.{CallsStand}
 use Rattle.zb_basis.specs.declared.calls.Numbered.{Numbered}
 use Rattle.zb_work.specs.declared.work.Aim.{Aim}
@@ -57,3 +57,7 @@ abbrev pub dids_of : ℕ → List Numbered → List Reply → List Did
 dids_of client (k ∷ ks) (reply ∷ replies) = record { client = client; number = k.number; call = k.call; reply = reply } ∷ dids_of client ks replies
 dids_of client [] replies = []
 dids_of client (k ∷ ks) [] = []
+
+-- no line tells of a crash of the file manager
+abbrev pub IsCalm : List Outcome → Type 0
+IsCalm lines = list_any (is_event (crashes Manager)) lines ≡ false

@@ -2,6 +2,8 @@
 //! their laws alone.
 #![tactic(auto)]
 
+mod replied;
 mod taken;
 
+pub use replied::replied_batches_fit;
 pub use taken::taken_calls_fit;

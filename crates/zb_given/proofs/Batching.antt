@@ -105,7 +105,7 @@ over_longer lines more (at ∷ finishes) h = elim (or_cases (nat_le at (length l
 ]
 
 -- a kept call was given
-given_call : (given : Given) (client n : ℕ) (o : Option Call) → call_of (script_of given) client n ≡ o → is_update_in o ≡ true → (call : Call) × (call_of (script_of given) client n ≡ Some call)
+pub given_call : (given : Given) (client n : ℕ) (o : Option Call) → call_of (script_of given) client n ≡ o → is_update_in o ≡ true → (call : Call) × (call_of (script_of given) client n ≡ Some call)
 given_call given client n None e h = no h
 given_call given client n (Some call) e h = (call, e)
 

@@ -394,13 +394,13 @@ takes given lines client kept taken call is update full s =
     }
 
 -- the last that was taken is kept
-last_among : (given : Given) (lines : List Outcome) (client : ℕ) (kept : List ℕ) (lined : ℕ) → CallsStand given lines client kept (suc lined) lined → is_among kept (suc lined) ≡ true
+pub last_among : (given : Given) (lines : List Outcome) (client : ℕ) (kept : List ℕ) (lined : ℕ) → CallsStand given lines client kept (suc lined) lined → is_among kept (suc lined) ≡ true
 last_among given lines client kept lined s =
     ap (λ (l : List ℕ). is_among l (suc lined)) (sym s.kept_are ∙ ap (λ (l : List ℕ). kept_numbers lines client ++ l) (without_one lined)) ∙ among_push (kept_numbers lines client) (suc lined) (suc lined)
     ∙ or_right (is_among (kept_numbers lines client) (suc lined)) (eqb (suc lined) (suc lined) || false) (ap (λ (b : Bool). b || false) (equals (suc lined)))
 
 -- what holds of each number holds of one of them
-all_among : (P : ℕ → Type 0) (n : ℕ) (xs : List ℕ) → is_among xs n ≡ true → AllByRecursion P xs → P n
+pub all_among : (P : ℕ → Type 0) (n : ℕ) (xs : List ℕ) → is_among xs n ≡ true → AllByRecursion P xs → P n
 all_among P n [] h all = no h
 all_among P n (k ∷ xs) h all = elim (or_cases (eqb k n) (is_among xs n) h) as (λ _. P n) [
   | inl e ↦ subst P (equal k n e) all.0

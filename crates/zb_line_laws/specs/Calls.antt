@@ -1,12 +1,12 @@
 -- How the calls of a client's machine are those that it was given, and what its steps tell of them.
-use Rattle.std.specs.Prelude.{◌≡◌, ℕ, ◌+◌, ◌∷◌, List, [], length, map, Option, Some, None, false}
+use Rattle.std.specs.Prelude.{◌≡◌, ℕ, ◌+◌, ◌∷◌, ◌++◌, List, [], length, map, Option, Some, None, false}
 use Rattle.std.specs.List.{list_any, AllByRecursion}
 use Rattle.zb_types.specs.declared.calls.Reply.{Reply}
 use Rattle.zb_types.specs.declared.history.Did.{Did}
 use Rattle.zb_types.specs.declared.lines.Outcome.{Outcome}
 use Rattle.zb_types.specs.declared.nodes.Node.TheVariants.{Manager}
 use Rattle.zb_claims.specs.Points.{call_of, crashes, is_event}
-use Rattle.zb_given.specs.Given.{Given, calls_of, script_of}
+use Rattle.zb_given.specs.Given.{FitGiven, Given, calls_of, script_of}
 use Rattle.zb_given.specs.Queues.{CallsStand}
 use Rattle.zb_basis.specs.declared.calls.Numbered.{Numbered}
 use Rattle.zb_work.specs.declared.work.Aim.{Aim}
@@ -15,6 +15,7 @@ use Rattle.zb_work.specs.Steps.{aim_of}
 use Rattle.zb_client.specs.declared.steps.Told.{Told}
 use Rattle.zb_client.specs.declared.steps.Told.TheVariants as told
 use Rattle.zb_client.specs.Seen.{SeenClient}
+use Rattle.zb_client.specs.Telling.{Heard}
 
 -- the call was given to this client under its number
 abbrev pub IsGiven : Given → ℕ → Numbered → Type 0
@@ -51,6 +52,10 @@ pub record HasItsCalls (given : Given) (lines : List Outcome) (c : SeenClient) :
 abbrev pub lines_in : Told → List Outcome
 lines_in told.Nothing = []
 lines_in (told.Lines lines) = lines
+
+-- what a step tells fits what was given, and the client has its calls then
+abbrev pub FitsAfter : Given → List Outcome → Heard → Type 0
+FitsAfter given lines heard = FitGiven given (lines ++ lines_in heard.told) × HasItsCalls given (lines ++ lines_in heard.told) heard.client
 
 -- the updates of a batch that was committed, with their replies
 abbrev pub dids_of : ℕ → List Numbered → List Reply → List Did

@@ -2,8 +2,12 @@
 //! their laws alone.
 #![tactic(auto)]
 
+mod answered;
+mod given_up;
 mod replied;
 mod taken;
 
+pub use answered::read_replies_fit;
+pub use given_up::given_up_calls_fit;
 pub use replied::replied_batches_fit;
 pub use taken::taken_calls_fit;

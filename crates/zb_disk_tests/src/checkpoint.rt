@@ -1,3 +1,5 @@
+ghost use Rattle.std.specs.Prelude.{◌≡◌, IfOk, length};
+
 use std::alloc::Global;
 use zb_cell::{get, set};
 use zb_ckpt::{CkptFault, Root, read, write};
@@ -17,7 +19,9 @@ fn platter(alloc: Global, choice: u8) -> Result<Fused<MemOutside>, Failed> {
 }
 
 // The root of an empty checkpoint in this slot, with this number of the first entry.
-fn root(slot: u8, first: u64) -> Result<Root, CkptFault> {
+fn root(slot: u8, first: u64) -> Result<Root, CkptFault>
+    ensures { IfOk result (λ root. root.first ≡ first) }
+{
     let Ok(geo) = Geometry::new(3, 1, 256, 64, 8) else {
         return Err(CkptFault::NoMemory);
     };
@@ -30,7 +34,9 @@ fn root(slot: u8, first: u64) -> Result<Root, CkptFault> {
 }
 
 // So many bytes that are all the same.
-fn bytes(alloc: Global, byte: u8, count: usize) -> Result<ByteList, CkptFault> {
+fn bytes(alloc: Global, byte: u8, count: usize) -> Result<ByteList, CkptFault>
+    ensures { IfOk result (λ list. length list ≡ count) }
+{
     Ok(ByteList::of(vec![in alloc; byte; count]?))
 }
 

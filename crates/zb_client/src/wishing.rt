@@ -57,13 +57,14 @@ impl Client {
     fn lookup(&self, alloc: Global, tries: u32) -> Mem<Lookup>
         ensures { IfOk result (λ lookup. lookup ≡ lookup_of self.now tries self.now.kept) }
     {
+        let block = self.desk.geo().block;
         if !self.kept.is_empty() {
-            let asks = asks_of(alloc, self.geo.block, self.run())?;
+            let asks = asks_of(alloc, block, self.run())?;
             let hold = tries >= MOST_TRIES;
             return Ok(Lookup::Files { hold, asks });
         }
         match self.queue.front() {
-            Some(read) => read_lookup(alloc, self.geo.block, &read.call),
+            Some(read) => read_lookup(alloc, block, &read.call),
             None => Ok(Lookup::Files {
                 hold: false,
                 asks: AskList::new(alloc)?,

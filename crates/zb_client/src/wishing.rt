@@ -1,4 +1,4 @@
-ghost use Rattle.std.specs.Prelude.{◌≡◌, ◌⊎◌, ◌<◌, IfOk, map, true, Option, option_map, slice_get};
+ghost use Rattle.std.specs.Prelude.{◌≡◌, ◌<◌, IfOk, map, true, Option, option_map, slice_get};
 ghost use Rattle.zb_types.specs.declared.ids.ServerId.{ServerId};
 ghost use Rattle.zb_types.specs.declared.requests.Request.{Request};
 ghost use Rattle.zb_basis.specs.Looking.{ask_of, asks_of};
@@ -98,11 +98,11 @@ impl Client {
     }
 
     /// What the next step wants: nothing, a move inside, a request to a server, or a turn of the file manager. It is
-    /// nothing only where there is no work and no call is queued, or while a batch is stored.
+    /// nothing only where there is no work and no call is queued.
     pub fn wish(&self, alloc: Global) -> Mem<Wish>
         requires { self.now.is_ready ≡ true }
         ensures exact { IfOk result (λ wish. wish ≡ wish_of self.now) }
-        ensures idle { wish_of self.now ≡ Wish.Idle → (kind_of self.now ≡ Kind.Idle) ⊎ (kind_of self.now ≡ Kind.Store) }
+        ensures idle { wish_of self.now ≡ Wish.Idle → kind_of self.now ≡ Kind.Idle }
     {
         match &self.task {
             Some(task) => self.step_wish(alloc, task.tries, &task.step),

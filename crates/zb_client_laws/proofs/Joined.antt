@@ -1,6 +1,6 @@
 -- The clients of a system, each with a log of its own.
-use Rattle.std.proofs.Common.{◌≡◌, ◌≢◌, ℕ, zero, suc, ◌+◌, ◌<◌, Bool, true, false, eqb, List, [], ◌∷◌, Option, Some, None, refl, sym, ap, ◌∙◌, subst, inl, inr, arith}
-use Rattle.std.specs.Prelude.{◌⊎◌, ◌==◌, if◌then◌else◌, slice_get, slice_set}
+use Rattle.std.proofs.Common.{◌≡◌, ◌≢◌, ℕ, zero, suc, ◌+◌, Bool, List, [], ◌∷◌, Option, Some, refl, sym, ap, ◌∙◌, subst, inl, inr, arith}
+use Rattle.std.specs.Prelude.{◌⊎◌, if◌then◌else◌, slice_get, slice_set}
 use Rattle.std.proofs.lemmas.Bool.{cases_eq, eq-eqb, ne_eqb}
 use Rattle.std.proofs.lemmas.Option.{none-some, same_Some}
 use Rattle.zb_types.specs.declared.ids.LogId.{LogId}
@@ -48,9 +48,10 @@ module _ (w new : Around) (seen later : ℕ → Tree) (clients : List SeenClient
     (others : (j : ℕ) (d : SeenClient) → j ≢ i → slice_get clients j ≡ Some d → ClientIsSound new (later j) d) where
   by_place : (j : ℕ) (d : SeenClient) → slice_get (slice_set clients i after) j ≡ Some d → (j ≡ i) ⊎ (j ≢ i) → ClientIsSound new (later j) d × (d.client ≡ j + 1)
   by_place j d e (inl here) =
-      let there : after ≡ d = same_Some after d (sym (set_there clients i c after is) ∙ ap (slice_get (slice_set clients i after)) (sym here) ∙ e) in
-      (subst (λ (x : SeenClient). ClientIsSound new (later j) x) there (subst (λ (k : ℕ). ClientIsSound new (later k) after) (sym here) own),
-      ap (λ (x : SeenClient). x.client) (sym there) ∙ same ∙ (all i c is).1 ∙ ap (λ (k : ℕ). k + 1) (sym here))
+      let there : after ≡ d = same_Some after d (sym (set_there clients i c after is) ∙ ap (slice_get (slice_set clients i after)) (sym here) ∙ e) in (
+        subst (λ (x : SeenClient). ClientIsSound new (later j) x) there (subst (λ (k : ℕ). ClientIsSound new (later k) after) (sym here) own),
+        ap (λ (x : SeenClient). x.client) (sym there) ∙ same ∙ (all i c is).1 ∙ ap (λ (k : ℕ). k + 1) (sym here),
+      )
   by_place j d e (inr ne) = let at = sym (set_other clients i j after ne) ∙ e in (others j d ne at, (all j d at).1)
 
   pub all_sound : ClientsAreSound new later (slice_set clients i after)
@@ -69,8 +70,8 @@ module _ (seen : ℕ → Tree) (clients : List SeenClient) (i : ℕ) (c after : 
         logs_differ w (seen j) (seen i) d c (all j d at).0 (all i c is).0
         (λ e. let p = (all j d at).1 in let q = (all i c is).1 in ne (by (sym p ∙ e ∙ q)))
         (same_log ∙ ap (λ (l : LogId). l.0) log_is) where
-      by : j + 1 ≡ i + 1 → j ≡ i
-      by e = omega (arith, e)
+          by : j + 1 ≡ i + 1 → j ≡ i
+          by e = omega (arith, e)
 
     pub store_together : (out : Option ServerId) (class : Class) (left : List (ServerId × Request)) (asked : ServerId × Request)
         → FlushWorks w.z w.contents w.st w.tables.held (allowed w.tables.members) out class flush left → slice_get left 0 ≡ Some asked

@@ -1,7 +1,7 @@
 -- A read is answered, and work that can't go on is given up.
-use Rattle.std.proofs.Common.{◌≡◌, ℕ, zero, suc, ◌+◌, Bool, true, false, List, [], ◌∷◌, ◌++◌, append-nil, length, Option, Some, None, refl, sym, ap, ◌∙◌, subst, arith}
-use Rattle.std.specs.Prelude.{map, nat_le, take}
-use Rattle.std.specs.List.{list_any, AllByRecursion}
+use Rattle.std.proofs.Common.{◌≡◌, ℕ, suc, ◌+◌, true, false, List, [], ◌∷◌, ◌++◌, length, Option, Some, refl, sym, ap, ◌∙◌, subst, arith}
+use Rattle.std.specs.Prelude.{nat_le, take}
+use Rattle.std.specs.List.{list_any}
 use Rattle.zb_types.specs.Apply.{is_update, reply_to}
 use Rattle.zb_types.specs.declared.calls.Call.{Call}
 use Rattle.zb_types.specs.declared.calls.Reply.{Reply}
@@ -10,11 +10,11 @@ use Rattle.zb_types.specs.declared.lines.Outcome.{Outcome}
 use Rattle.zb_types.specs.declared.lines.Outcome.TheVariants.{Call as OfCall}
 use Rattle.zb_types.specs.declared.lines.Said.{Said}
 use Rattle.zb_types.specs.declared.lines.Said.TheVariants as said
-use Rattle.zb_claims.specs.Points.{call_of, is_final, is_of_client}
+use Rattle.zb_claims.specs.Points.{call_of, is_final}
 use Rattle.zb_claims.specs.Fits.{is_update_in}
 use Rattle.zb_given.specs.Adds.{FitWith}
 use Rattle.zb_given.specs.Batches.{AllUnfinished, unfinished_lines as lines_of}
-use Rattle.zb_given.specs.Calls.{IsLookedUp, IsOpen, LookedUp, MayReply, tree_seen}
+use Rattle.zb_given.specs.Calls.{IsLookedUp, IsOpen, MayReply, tree_seen}
 use Rattle.zb_given.specs.Given.{FitGiven, Given, calls_of, place_of, script_of}
 use Rattle.zb_given.specs.Queues.{CallsStand, EndsNext, IsKeptFor}
 use Rattle.zb_given.proofs.Adding.{adds_failed, adds_kept, adds_read}
@@ -27,8 +27,8 @@ use Rattle.zb_work.specs.declared.work.Aim.TheVariants.{Update, Read, Finish}
 use Rattle.zb_work.specs.declared.work.Task.{Task}
 use Rattle.zb_work.specs.Steps.{aim_of}
 use Rattle.zb_client.specs.Seen.{SeenClient}
-use Rattle.zb_client.specs.Telling.{Heard, answers_first, answers_read, ends_all as all_ended, gives_up, gives_up_aim, gives_up_for, unfinished_lines}
-use Rattle.zb_line_laws.specs.Calls.{AimHas, AreGivenBehind, FitsAfter, HasItsCalls, IsCalm, IsGiven, numbers_of}
+use Rattle.zb_client.specs.Telling.{answers_first, answers_read, ends_all as all_ended, gives_up, gives_up_aim, gives_up_for, unfinished_lines}
+use Rattle.zb_line_laws.specs.Calls.{AimHas, AreGivenBehind, FitsAfter, HasItsCalls, IsCalm, numbers_of}
 
 take-none : (xs : List Numbered) → take 0 xs ≡ []
 take-none [] = refl
@@ -116,17 +116,18 @@ module _ (given : Given) (lines : List Outcome) (c : SeenClient) (fit : FitGiven
     stays = keeps_for given lines c.client Nums h.lined last.0 last.1 open_stand
 
     pub kept : (cause : Cause) → FitsAfter given lines (gives_up_aim c (Update number) cause)
-    kept cause = subst (λ (n : ℕ). FitsAfter given lines (gives_up_aim c (Update n) cause)) (sym number_of)
-        (adds_kept given lines c.client (suc h.lined) last.0 cause fit stays.is_open stays.fits,
-        record {
-          taken = suc h.lined;
-          lined = suc h.lined;
-          stand = stays.stand cause;
-          kept = h.kept;
-          queue = subst (λ (n : ℕ). AreGivenBehind given c.client n c.queue) taken_is h.queue;
-          all = subst (λ (n : ℕ). n + length c.queue ≡ length (calls_of given c.client)) taken_is h.all;
-          work = refl;
-        })
+    kept cause = subst (λ (n : ℕ). FitsAfter given lines (gives_up_aim c (Update n) cause)) (sym number_of) (
+      adds_kept given lines c.client (suc h.lined) last.0 cause fit stays.is_open stays.fits,
+      record {
+        taken = suc h.lined;
+        lined = suc h.lined;
+        stand = stays.stand cause;
+        kept = h.kept;
+        queue = subst (λ (n : ℕ). AreGivenBehind given c.client n c.queue) taken_is h.queue;
+        all = subst (λ (n : ℕ). n + length c.queue ≡ length (calls_of given c.client)) taken_is h.all;
+        work = refl;
+      },
+    )
 
   -- a finish can't go on
   module _ (finishes : aim_of c.task ≡ Some Finish) (over : list_any (λ at. nat_le at (length lines)) given.finishes ≡ true) (cause : Cause) where
@@ -140,15 +141,18 @@ module _ (given : Given) (lines : List Outcome) (c : SeenClient) (fit : FitGiven
     Left kept more = FitGiven given (lines ++ more) × HasItsCalls given (lines ++ more) (record (all_ended c cause).client { kept = kept })
 
     left : Left [] (lines_of c.client cause Nums)
-    left = (ended.fits, record {
-      taken = h.taken;
-      lined = h.taken;
-      stand = ended.stand;
-      kept = tt;
-      queue = h.queue;
-      all = h.all;
-      work = refl;
-    })
+    left = (
+      ended.fits,
+      record {
+        taken = h.taken;
+        lined = h.taken;
+        stand = ended.stand;
+        kept = tt;
+        queue = h.queue;
+        all = h.all;
+        work = refl;
+      },
+    )
 
     pub finished : c.doubted ≡ 0 → FitsAfter given lines (all_ended c cause)
     finished settled =

@@ -43,7 +43,7 @@ module _ (given : Given) (lines : List Outcome) (c : SeenClient) (fit : FitGiven
   quiet d g = (
     subst (FitGiven given) same_lines fit,
     subst (λ (ls : List Outcome). HasItsCalls given ls (silent d).client) same_lines
-    (record { taken = g.taken; lined = g.lined; stand = g.stand; kept = g.kept; queue = g.queue; all = g.all; work = g.work }),
+        (record { taken = g.taken; lined = g.lined; stand = g.stand; kept = g.kept; queue = g.queue; all = g.all; work = g.work }),
   )
 
   module _ (none : c.task ≡ None) where
@@ -86,16 +86,18 @@ module _ (given : Given) (lines : List Outcome) (c : SeenClient) (fit : FitGiven
       buffered can few =
           let b = buffers given lines c.client (numbers_of c.kept) h.taken call.call given_next can (let f = ltb-true (length Kept) most_kept few in let l = long in omega (arith, f, l)) stand in
           let fits = adds_buffered given lines c.client (suc h.taken) call.call fit b.is_open b.fits in
-          subst (λ (n : ℕ). FitGiven given (lines ++ OfCall c.client n said.Buffered ∷ []) × HasItsCalls given (lines ++ OfCall c.client n said.Buffered ∷ []) (tells With []).client) (sym number_is)
-          (fits, record {
-            taken = suc h.taken;
-            lined = suc h.taken;
-            stand = subst (λ (ns : List ℕ). CallsStand given (lines ++ OfCall c.client (suc h.taken) said.Buffered ∷ []) c.client ns (suc h.taken) (suc h.taken)) numbers_are b.stand;
-            kept = kept_given;
-            queue = behind;
-            all = count;
-            work = subst (λ (t : Option Task). AimHas (aim_of t) (suc h.taken) (suc h.taken)) (sym none) refl;
-          })
+          subst (λ (n : ℕ). FitGiven given (lines ++ OfCall c.client n said.Buffered ∷ []) × HasItsCalls given (lines ++ OfCall c.client n said.Buffered ∷ []) (tells With []).client) (sym number_is) (
+            fits,
+            record {
+              taken = suc h.taken;
+              lined = suc h.taken;
+              stand = subst (λ (ns : List ℕ). CallsStand given (lines ++ OfCall c.client (suc h.taken) said.Buffered ∷ []) c.client ns (suc h.taken) (suc h.taken)) numbers_are b.stand;
+              kept = kept_given;
+              queue = behind;
+              all = count;
+              work = subst (λ (t : Option Task). AimHas (aim_of t) (suc h.taken) (suc h.taken)) (sym none) refl;
+            },
+          )
 
       -- the commit of all begins
       begun : is_update call.call ≡ true → (is_bufferable call.call ≡ true → most_kept ≤ suc (length (numbers_of c.kept))) → Fits (silent (record With { task = new_task (Update call.number) }))
@@ -123,7 +125,13 @@ module _ (given : Given) (lines : List Outcome) (c : SeenClient) (fit : FitGiven
       -- a read
       read_begun : Fits (silent (record c { task = new_task Read }))
       read_begun = quiet (record c { task = new_task Read }) (record {
-        taken = h.taken; lined = h.lined; stand = h.stand; kept = h.kept; queue = h.queue; all = h.all; work = lined_is;
+        taken = h.taken;
+        lined = h.lined;
+        stand = h.stand;
+        kept = h.kept;
+        queue = h.queue;
+        all = h.all;
+        work = lined_is;
       })
 
       taken_by : (update : Bool) → is_update call.call ≡ update → Fits (if update then keeps With call else silent (record c { task = new_task Read }))

@@ -1,11 +1,12 @@
 -- How the calls of a client's machine are those that it was given, and what its steps tell of them.
-use Rattle.std.specs.Prelude.{◌≡◌, ℕ, ◌+◌, ◌∷◌, ◌++◌, List, [], length, map, Option, Some, None, false}
+use Rattle.std.specs.Prelude.{◌≡◌, ℕ, suc, ◌==◌, ◌+◌, ◌∷◌, ◌++◌, List, [], length, map, Option, Some, None, false}
 use Rattle.std.specs.List.{list_any, AllByRecursion}
+use Rattle.zb_types.specs.declared.calls.Call.{Call}
 use Rattle.zb_types.specs.declared.calls.Reply.{Reply}
 use Rattle.zb_types.specs.declared.history.Did.{Did}
 use Rattle.zb_types.specs.declared.lines.Outcome.{Outcome}
 use Rattle.zb_types.specs.declared.nodes.Node.TheVariants.{Manager}
-use Rattle.zb_claims.specs.Points.{call_of, crashes, is_event}
+use Rattle.zb_claims.specs.Points.{call_of, crashes, is_event, is_of_client}
 use Rattle.zb_given.specs.Given.{FitGiven, Given, calls_of, script_of}
 use Rattle.zb_given.specs.Queues.{CallsStand}
 use Rattle.zb_basis.specs.declared.calls.Numbered.{Numbered}
@@ -14,7 +15,7 @@ use Rattle.zb_work.specs.declared.work.Aim.TheVariants.{Update, Read, Finish}
 use Rattle.zb_work.specs.Steps.{aim_of}
 use Rattle.zb_client.specs.declared.steps.Told.{Told}
 use Rattle.zb_client.specs.declared.steps.Told.TheVariants as told
-use Rattle.zb_client.specs.Seen.{SeenClient}
+use Rattle.zb_client.specs.Seen.{SeenClient, unready}
 use Rattle.zb_client.specs.Telling.{Heard}
 
 -- the call was given to this client under its number
@@ -56,6 +57,14 @@ lines_in (told.Lines lines) = lines
 -- what a step tells fits what was given, and the client has its calls then
 abbrev pub FitsAfter : Given → List Outcome → Heard → Type 0
 FitsAfter given lines heard = FitGiven given (lines ++ lines_in heard.told) × HasItsCalls given (lines ++ lines_in heard.told) heard.client
+
+-- what a step tells is of no other client
+abbrev pub TellsOwn : SeenClient → Heard → Type 0
+TellsOwn c heard = (other : ℕ) → (other == c.client) ≡ false → list_any (is_of_client other) (lines_in heard.told) ≡ false
+
+-- one call more stands in its queue, with the next number
+abbrev pub queues : Given → SeenClient → Call → SeenClient
+queues given c call = record (unready c) { queue = c.queue ++ record { number = suc (length (calls_of given c.client)); call = call } ∷ [] }
 
 -- the updates of a batch that was committed, with their replies
 abbrev pub dids_of : ℕ → List Numbered → List Reply → List Did

@@ -3,11 +3,15 @@
 #![tactic(auto)]
 
 mod answered;
+mod beside;
 mod given_up;
+mod owned;
 mod replied;
 mod taken;
 
 pub use answered::read_replies_fit;
+pub use beside::calls_stay_with_clients;
 pub use given_up::given_up_calls_fit;
+pub use owned::lines_are_the_clients_own;
 pub use replied::replied_batches_fit;
 pub use taken::taken_calls_fit;

@@ -10,7 +10,7 @@ use Rattle.zb_work.specs.declared.work.Task.{Task}
 use Rattle.zb_work.specs.Steps.{aim_of, step_of, with_step}
 use Rattle.zb_client.specs.Seen.{SeenClient}
 use Rattle.zb_progress.specs.Fresh.{is_fresh, is_fresh_at}
-use Rattle.zb_progress.specs.Left.{rank, round, stage, stale_steps, steps_from_lookup, steps_left}
+use Rattle.zb_progress.specs.Left.{rank, round, stage, stale_steps, steps_from_lookup, steps_left, work_rank}
 
 -- a lesser number of rounds
 rounds-fall : (m n r x y : ℕ) → m < n → x < r → m * r + x < n * r + y
@@ -49,6 +49,22 @@ same-aim s (Some task) = refl
 
 pub at-new : (s : Step) (task : Task) (o : Option Task) → o ≡ Some task → step_of (with_step s o) ≡ s
 at-new s task o e = ap (λ (x : Option Task). step_of (with_step s x)) e
+
+-- the same work goes on at another step
+pub step-falls : (z : Sizes) (t : Tables) (c d : SeenClient) (task : Task) (new : Step) → c.task ≡ Some task → d.task ≡ with_step new c.task → d.kept ≡ c.kept → d.queue ≡ c.queue → d.block ≡ c.block
+    → stage z new + stale_steps z (is_fresh_at t c.block c.kept new) < stage z (step_of c.task) + stale_steps z (is_fresh t c) → steps_left z t d < steps_left z t c
+step-falls z t c d task new own is kept queue block lt =
+    let now : step_of d.task ≡ new = ap step_of is ∙ at-new new task c.task own in
+    let ranks : rank d ≡ rank c =
+        ap (λ (q : List Numbered). 3 * length q + length d.kept + work_rank (aim_of d.task)) queue
+        ∙ ap (λ (k : List Numbered). 3 * length c.queue + length k + work_rank (aim_of d.task)) kept
+        ∙ ap (λ (o : Option Aim). 3 * length c.queue + length c.kept + work_rank o) (ap aim_of is ∙ same-aim new c.task) in
+    let fresh : is_fresh t d ≡ is_fresh_at t c.block c.kept new =
+        ap (λ (b : ℕ). is_fresh_at t b d.kept (step_of d.task)) block ∙ ap (λ (k : List Numbered). is_fresh_at t c.block k (step_of d.task)) kept
+        ∙ ap (is_fresh_at t c.block c.kept) now in
+    let left : stage z (step_of d.task) + stale_steps z (is_fresh t d) ≡ stage z new + stale_steps z (is_fresh_at t c.block c.kept new) =
+        ap (λ (s : Step). stage z s + stale_steps z (is_fresh t d)) now ∙ ap (λ (b : Bool). stage z new + stale_steps z b) fresh in
+    stage-falls z t c d ranks (omega (arith, left, lt))
 
 pub others-add : (z : Sizes) (t u : Tables) (c : SeenClient) → steps_left z u c < steps_left z t c + round z
 others-add z t u c =

@@ -3,3 +3,8 @@ pub mod Falling
 pub mod Versions
 pub mod Committing
 pub mod Stepping
+pub mod Requests
+pub mod Missing
+pub mod Wanting
+pub mod Ongoing
+pub mod LookingUp

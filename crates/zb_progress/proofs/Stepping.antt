@@ -46,7 +46,7 @@ use Rattle.zb_client_laws.proofs.Lasting.{looks_again, next_looks}
 use Rattle.zb_progress.specs.Fresh.{is_fresh, is_fresh_at}
 use Rattle.zb_progress.specs.Left.{rank, stage, stale_steps, steps_from_lookup, steps_left, work_rank}
 use Rattle.zb_progress.proofs.Committing.{some-op}
-use Rattle.zb_progress.proofs.Falling.{at-lookup, at-new, rank-falls, same-aim, stage-falls}
+use Rattle.zb_progress.proofs.Falling.{at-lookup, rank-falls, same-aim, stage-falls, step-falls}
 
 -- what any work counts
 rank-most : (aim : Option Aim) → work_rank aim ≤ 2
@@ -101,18 +101,9 @@ module _ (z : Sizes) (t : Tables) (c : SeenClient) where
         → is_fresh_at t c.block c.kept new ≡ is_fresh_at t c.block c.kept (step.Store basis formed) → stage z new < stage z (step.Store basis formed) → steps_left z t d < steps_left z t c
     goes-on new d task kept queue block same lt =
         let own = some-task c.task refl in
-        let now : step_of d.task ≡ new = ap step_of task ∙ at-new new own.0 c.task own.1 in
-        let ranks : rank d ≡ rank c =
-            ap (λ (q : List Numbered). 3 * length q + length d.kept + work_rank (aim_of d.task)) queue
-            ∙ ap (λ (k : List Numbered). 3 * length c.queue + length k + work_rank (aim_of d.task)) kept
-            ∙ ap (λ (o : Option Aim). 3 * length c.queue + length c.kept + work_rank o) (ap aim_of task ∙ same-aim new c.task) in
-        let fresh : is_fresh t d ≡ is_fresh t c =
-            ap (λ (b : ℕ). is_fresh_at t b d.kept (step_of d.task)) block ∙ ap (λ (k : List Numbered). is_fresh_at t c.block k (step_of d.task)) kept
-            ∙ ap (is_fresh_at t c.block c.kept) now ∙ same ∙ sym (ap (is_fresh_at t c.block c.kept) e) in
-        let left : stage z (step_of d.task) + stale_steps z (is_fresh t d) ≡ stage z new + stale_steps z (is_fresh t c) =
-            ap (λ (s : Step). stage z s + stale_steps z (is_fresh t d)) now ∙ ap (λ (b : Bool). stage z new + stale_steps z b) fresh in
+        let stale : stale_steps z (is_fresh_at t c.block c.kept new) ≡ stale_steps z (is_fresh t c) = ap (stale_steps z) (same ∙ sym (ap (is_fresh_at t c.block c.kept) e)) in
         let was : stage z (step_of c.task) ≡ stage z (step.Store basis formed) = ap (stage z) e in
-        stage-falls z t c d ranks (omega (arith, left, was, lt))
+        step-falls z t c d own.0 new own.1 task kept queue block (omega (arith, stale, was, lt))
 
     -- which step a store leads to makes no difference to what it rests on
     same-left : (kept : List Numbered) (other : Formed) → is_fresh_at t c.block kept (step.Store basis other) ≡ is_fresh_at t c.block kept (step.Store basis formed)

@@ -8,3 +8,4 @@ pub mod Missing
 pub mod Wanting
 pub mod Ongoing
 pub mod LookingUp
+pub mod Arriving

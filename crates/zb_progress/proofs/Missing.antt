@@ -25,26 +25,31 @@ module _ (p : Ptr) (bytes : List ℕ) (some : 0 < length bytes) where
   abbrev Fills : List Fetched → ℕ → Type 0
   Fills bs at = missing_bytes (filled bs at p bytes) + p.len ≡ missing_bytes bs
 
+  -- the first block is the one
+  fills-first : (b : Fetched) (bs : List Fetched) (at : ℕ) → is_missing b ≡ true → ◌≡◌ {A = Option (ℕ × Ptr)} (Some (0, b.ptr)) (Some (at, p)) → Fills (b ∷ bs) at
+  fills-first b bs at e g =
+      let len : b.ptr.len ≡ p.len = ap (λ (o : Option (ℕ × Ptr)). (ptr_or p o).len) g in
+      let was : missing_bytes (b ∷ bs) ≡ b.ptr.len + missing_bytes bs = ap (λ (t : Bool). (if t then b.ptr.len else 0) + missing_bytes bs) e in
+      let now : missing_bytes (filled (b ∷ bs) 0 p bytes) ≡ 0 + missing_bytes bs = ap (λ (t : Bool). (if t then p.len else 0) + missing_bytes bs) (not-none bytes some) in
+      subst (Fills (b ∷ bs)) (ap place_or g) (omega (arith, len, was, now))
+
+  -- it stands behind the first
+  fills-later : (b : Fetched) (bs : List Fetched) (at k : ℕ) → is_missing b ≡ false → k + 1 ≡ at → Fills bs k → Fills (b ∷ bs) at
+  fills-later b bs at k e place inner =
+      let next : suc k ≡ at = omega arith in
+      let was : missing_bytes (b ∷ bs) ≡ 0 + missing_bytes bs = ap (λ (t : Bool). (if t then b.ptr.len else 0) + missing_bytes bs) e in
+      let now : missing_bytes (filled (b ∷ bs) (suc k) p bytes) ≡ 0 + missing_bytes (filled bs k p bytes) = ap (λ (t : Bool). (if t then b.ptr.len else 0) + missing_bytes (filled bs k p bytes)) e in
+      subst (Fills (b ∷ bs)) next (omega (arith, inner, was, now))
+
   fills-by : (b : Fetched) (bs : List Fetched) (at : ℕ) (t : Bool) (found : Option (ℕ × Ptr)) → is_missing b ≡ t → next_missing bs ≡ found
       → ((k : ℕ) → next_missing bs ≡ Some (k, p) → Fills bs k) → next_missing (b ∷ bs) ≡ Some (at, p) → Fills (b ∷ bs) at
   fills-by b bs at true found e f rest h =
-      let g : Some (0, b.ptr) ≡ Some (at, p) = rw e at h in
-      let first : 0 ≡ at = ap place_or g in
-      let ptr : b.ptr ≡ p = ap (ptr_or p) g in
-      let len : b.ptr.len ≡ p.len = ap (λ (q : Ptr). q.len) ptr in
-      let was : missing_bytes (b ∷ bs) ≡ b.ptr.len + missing_bytes bs = ap (λ (t : Bool). (if t then b.ptr.len else 0) + missing_bytes bs) e in
-      let now : missing_bytes (filled (b ∷ bs) 0 p bytes) ≡ 0 + missing_bytes bs = ap (λ (t : Bool). (if t then p.len else 0) + missing_bytes bs) (not-none bytes some) in
-      subst (Fills (b ∷ bs)) first (omega (arith, len, was, now))
+      fills-first b bs at e (rw e at h)
   fills-by b bs at false None e f rest h = let g : shifted 1 (next_missing bs) ≡ Some (at, p) = rw e at h in absurd (cc (rw f at g))
   fills-by b bs at false (Some m) e f rest h =
       let g : shifted 1 (next_missing bs) ≡ Some (at, p) = rw e at h in
       let g2 : Some (m.0 + 1, m.1) ≡ Some (at, p) = rw f at g in
-      let place : suc m.0 ≡ at = (let n : m.0 + 1 ≡ at = ap place_or g2 in omega (arith, n)) in
-      let inner = rest m.0 (f ∙ ap (λ (q : Ptr). Some (m.0, q)) (ap (ptr_or p) g2)) in
-      let was : missing_bytes (b ∷ bs) ≡ 0 + missing_bytes bs = ap (λ (t : Bool). (if t then b.ptr.len else 0) + missing_bytes bs) e in
-      let now : missing_bytes (filled (b ∷ bs) (suc m.0) p bytes) ≡ 0 + missing_bytes (filled bs m.0 p bytes) =
-          ap (λ (t : Bool). (if t then b.ptr.len else 0) + missing_bytes (filled bs m.0 p bytes)) e in
-      subst (Fills (b ∷ bs)) place (omega (arith, inner, was, now))
+      fills-later b bs at m.0 e (ap place_or g2) (rest m.0 (f ∙ ap (λ (q : Ptr). Some (m.0, q)) (ap (ptr_or p) g2)))
 
   -- the bytes of a missing block are missing no more
   pub missing-filled : (bs : List Fetched) (at : ℕ) → next_missing bs ≡ Some (at, p) → Fills bs at

@@ -38,7 +38,7 @@ abbrev pub found-now : Tables → ℕ → List Numbered → List Found → Bool
 found-now t b [] found = true
 found-now t b (first ∷ others) found = is_now t (asks_of b (run_of (first ∷ others))) (Some found)
 
-fetch-now : (t : Tables) (b : ℕ) (kept : List Numbered) (basis : Basis) (at : ℕ) (ptr : Ptr) (plan : Reading) → is_fresh_at t b kept (step.Fetch basis at ptr plan) ≡ found-now t b kept basis.found
+pub fetch-now : (t : Tables) (b : ℕ) (kept : List Numbered) (basis : Basis) (at : ℕ) (ptr : Ptr) (plan : Reading) → is_fresh_at t b kept (step.Fetch basis at ptr plan) ≡ found-now t b kept basis.found
 fetch-now t b [] basis at ptr plan = refl
 fetch-now t b (first ∷ others) basis at ptr plan = refl
 

@@ -5,6 +5,7 @@
 mod batches;
 mod beside;
 mod commits;
+mod fetches;
 mod inside;
 mod lookups;
 mod stores;
@@ -12,6 +13,7 @@ mod stores;
 pub use batches::fresh_batches_are_committed;
 pub use beside::others_leave_steps;
 pub use commits::commits_leave_fewer_steps;
+pub use fetches::fetches_leave_fewer_steps;
 pub use inside::calls_leave_fewer_steps;
 pub use lookups::lookups_leave_fewer_steps;
 pub use stores::stores_leave_fewer_steps;

@@ -1,8 +1,8 @@
 -- A fetch that is answered from what the servers have leaves fewer steps.
-use Rattle.std.proofs.Common.{◌≡◌, ℕ, ◌+◌, ◌-◌, ◌*◌, ◌<◌, ◌≤◌, min, Bool, true, false, eqb, List, [], ◌∷◌, ◌++◌, length, take, drop, Option, Some, None, refl, sym, ap, ◌∙◌, subst, inl, inr, length-drop, arith}
-use Rattle.std.specs.Prelude.{◌⊎◌, ◌&&◌, ◌==◌, if◌then◌else◌, is_some, nat_le, nat_lt}
+use Rattle.std.proofs.Common.{◌≡◌, ℕ, ◌+◌, ◌-◌, ◌*◌, ◌<◌, ◌≤◌, Bool, true, false, List, length, take, drop, Option, Some, None, refl, sym, ap, ◌∙◌, subst, inl, inr, length-drop, arith}
+use Rattle.std.specs.Prelude.{◌&&◌, ◌==◌, if◌then◌else◌, is_some, nat_le, nat_lt}
 use Rattle.std.specs.Bool.{MatchBool}
-use Rattle.std.proofs.lemmas.Bool.{and_right, cases_lt, false≢true, ltb-true}
+use Rattle.std.proofs.lemmas.Bool.{cases_lt, false≢true, ltb-true}
 use Rattle.std.proofs.lemmas.Bool.Decides.{nat_tests}
 use Rattle.std.proofs.lemmas.List.{length-take}
 use Rattle.std.proofs.lemmas.Nat.{mul-le}
@@ -16,19 +16,18 @@ use Rattle.zb_types.specs.declared.requests.StoreFault.TheVariants as fault
 use Rattle.zb_types.specs.Tree.{Tree}
 use Rattle.zb_holding.specs.Carrying.{found}
 use Rattle.zb_holding.specs.Fragments.{Fragment, parity_fragment, share_fragment}
-use Rattle.zb_holding.specs.Holding.{AreBytesOfStripe, Maps, StripeHolds, StripeRemains, away_at, standing, view_of}
+use Rattle.zb_holding.specs.Holding.{AreBytesOfStripe, Maps, StripeHolds, away_at, standing, view_of}
 use Rattle.zb_stripe.specs.declared.progress.Phase.{Phase}
-use Rattle.zb_stripe.specs.declared.progress.Phase.TheVariants.{Direct, Lengths, Others}
+use Rattle.zb_stripe.specs.declared.progress.Phase.TheVariants.{Direct}
 use Rattle.zb_stripe.specs.declared.read_plan.Got.{Got}
 use Rattle.zb_stripe.specs.declared.read_plan.Got.TheVariants as got
 use Rattle.zb_stripe.specs.Reading.{Reading, advanced, asked, asked_in, end_of, fed, fed_in, pos_of}
-use Rattle.zb_stripe_laws.specs.ReadAtWork.{AnswersFrom, AnswersWith, AsksOther, LeadsTo, MayTell, ReadAtWork, StillGrow, WasLooked, answers_for, answers_left}
+use Rattle.zb_stripe_laws.specs.ReadAtWork.{AnswersFrom, AsksOther, LeadsTo, MayTell, ReadAtWork, StillGrow, WasLooked, answers_left}
 use Rattle.zb_stripe_laws.proofs.Keeping.{holds_less}
 use Rattle.zb_stripe_laws.proofs.Left.{held_remains}
 use Rattle.zb_stripe_laws.proofs.Ongoing.{goes_on as read_on, gone_other, stays}
-use Rattle.zb_tables.specs.Tables.{bytes_at}
 use Rattle.zb_basis.specs.declared.basis.Basis.{Basis}
-use Rattle.zb_work.specs.Blocks.{filled, next_missing}
+use Rattle.zb_work.specs.Blocks.{next_missing}
 use Rattle.zb_work.specs.declared.work.Step.{Step}
 use Rattle.zb_work.specs.declared.work.Step.TheVariants as step
 use Rattle.zb_work.specs.declared.work.Task.{Task}
@@ -142,8 +141,8 @@ module _ (slots : ℕ) (w : Around) (a : IsAround slots w) (ptr : Ptr) (plan : R
   work =
       stays plan.servers plan.fragment plan.ptr rd.end two some inside w.st.maps w.st.maps rd.seen None (w.contents ptr.log ptr.stripe) Bytes same
       plan.lost plan.read plan.phase rd.work (grows plan.phase rd.direct) where
-    grows : (phase : Phase) → phase ≡ Direct → StillGrow plan.servers plan.ptr w.st.maps w.st.maps rd.seen None phase
-    grows phase e = subst (λ (p : Phase). StillGrow plan.servers plan.ptr w.st.maps w.st.maps rd.seen None p) (sym e) tt
+        grows : (phase : Phase) → phase ≡ Direct → StillGrow plan.servers plan.ptr w.st.maps w.st.maps rd.seen None phase
+        grows phase e = subst (λ (p : Phase). StillGrow plan.servers plan.ptr w.st.maps w.st.maps rd.seen None p) (sym e) tt
 
   -- what is held isn't gone
   not-gone : (response : Response) → AnswersFrom w.st.maps None None (asked plan) response → (fed_in plan Direct response).1 ≡ got.Gone → ⊥
@@ -250,8 +249,8 @@ module _ (slots : ℕ) (w : Around) (a : IsAround slots w) (seen : Tree) (c : Se
         let long = all-long slots w a ptr plan Rd bytes from e in
         let some = wants in
         tests (length Later.read) ptr.len long (omega (arith, some)) where
-      tests : (n m : ℕ) → n ≡ m → 0 < m → (n == m && nat_lt 0 n) ≡ true
-      tests n m e lt = grind (arith, nat_tests)
+          tests : (n m : ℕ) → n ≡ m → 0 < m → (n == m && nat_lt 0 n) ≡ true
+          tests n m e lt = grind (arith, nat_tests)
 
     all-falls : (heard : Heard) → nat_lt (pos_of Later) (end_of Later) ≡ false → MatchBool (is_whole ptr Later.read) (GoesOn (caches c ptr Later.read) (with_block basis at ptr Later.read) heard) (heard ≡ looks_anew c)
         → ClientIsSound w seen heard.client → Fewer heard

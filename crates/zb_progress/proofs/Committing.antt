@@ -1,15 +1,14 @@
 -- A stored batch whose lookups are at the versions of the tables is not refused.
-use Rattle.std.proofs.Common.{◌≡◌, ℕ, ◌+◌, ◌≤◌, ◌<◌, Bool, true, false, List, [], ◌∷◌, Option, Some, None, refl, sym, ap, ◌∙◌, subst, inl, inr, arith}
-use Rattle.std.specs.Prelude.{IsTrue, length, ◌==◌, nat_le, nat_lt, if◌then◌else◌, Result, Ok, Err}
-use Rattle.std.specs.List.{AllByRecursion, AllZip, concat}
+use Rattle.std.proofs.Common.{◌≡◌, ℕ, ◌≤◌, ◌<◌, Bool, true, false, List, [], ◌∷◌, Option, Some, None, refl, sym, ap, ◌∙◌, subst, arith}
+use Rattle.std.specs.Prelude.{IsTrue, length, ◌==◌, nat_le, nat_lt, if◌then◌else◌, Result}
+use Rattle.std.specs.List.{AllByRecursion}
 use Rattle.std.proofs.lemmas.Bool.{false≢true}
 use Rattle.std.proofs.lemmas.Bool.Decides.{nat_tests}
 use Rattle.std.proofs.lemmas.Option.{none-some}
 use Rattle.zb_types.specs.declared.ids.LogId.{LogId}
 use Rattle.zb_types.specs.declared.ids.Piece.{Piece}
-use Rattle.zb_types.specs.declared.ids.Ptr.{Ptr}
 use Rattle.zb_types.specs.declared.tables.CommitFault.{CommitFault}
-use Rattle.zb_types.specs.declared.tables.CommitFault.TheVariants.{Regen, Stale as StaleFault, Worn}
+use Rattle.zb_types.specs.declared.tables.CommitFault.TheVariants.{Regen, Worn}
 use Rattle.zb_types.specs.Keyed.{look}
 use Rattle.zb_types.specs.Tree.{Tree}
 use Rattle.zb_stripe_laws.specs.PartAtWork.{StripesDiffer}
@@ -19,7 +18,7 @@ use Rattle.zb_batch.specs.declared.batch.Batch.{Batch}
 use Rattle.zb_batch.specs.declared.batch.Op.{Op}
 use Rattle.zb_batch.specs.Batches.{is_company}
 use Rattle.zb_tables.specs.Fold.{Shelf, Stale, done_ops, shelf_of}
-use Rattle.zb_tables.specs.Tables.{Contents, LiesIn, SameIn, Tables, bytes_at, last_value}
+use Rattle.zb_tables.specs.Tables.{Contents, LiesIn, SameIn, bytes_at, last_value}
 use Rattle.zb_tables.specs.Taking.{any_wears, below_mark, commit_refusal, mark_of, or_else, regen_of, stale_of, worn_of}
 use Rattle.zb_sound.specs.LookupsCurrent.{AreFetched}
 use Rattle.zb_sound.proofs.Flushing.{parts_same}
@@ -43,11 +42,10 @@ use Rattle.zb_work.specs.Steps.{first_members, step_of}
 use Rattle.zb_client.specs.Seen.{SeenClient}
 use Rattle.zb_client_laws.specs.Around.{Around, IsAround, at_rest}
 use Rattle.zb_client_laws.specs.Effects.{founds}
-use Rattle.zb_client_laws.specs.Known.{IsKnown}
 use Rattle.zb_client_laws.specs.Sound.{ClientIsSound}
 use Rattle.zb_client_laws.proofs.Blocks.{all_there}
 use Rattle.zb_client_laws.proofs.Delivered.{Former, Given, Is, Are, Stored, Whole, current, delivered, log_is, standing}
-use Rattle.zb_progress.specs.Fresh.{MayRise, is_fresh, is_fresh_at, is_now, same_numbers, versions_of}
+use Rattle.zb_progress.specs.Fresh.{MayRise, is_fresh, is_fresh_at, same_numbers, versions_of}
 use Rattle.zb_progress.proofs.Versions.{IsDone, batch-done}
 
 -- pieces that don't lie below a mark
@@ -68,8 +66,8 @@ not-worn : (n m : ℕ) (worn : Bool) → n < last_value → m ≤ last_value →
 not-worn n m worn low most e =
     skipped (nat_le last_value n) (Worn 2) (if nat_lt last_value m then Some (Worn 3) else (if worn then Some (Worn 4) else None)) (is-low n low)
     (skipped (nat_lt last_value m) (Worn 3) (if worn then Some (Worn 4) else None) (not-below last_value m most) (skipped worn (Worn 4) None e refl)) where
-  is-low : (n : ℕ) → n < last_value → nat_le last_value n ≡ false
-  is-low n l = grind (arith, nat_tests)
+      is-low : (n : ℕ) → n < last_value → nat_le last_value n ≡ false
+      is-low n l = grind (arith, nat_tests)
 
 -- a batch has an operation
 pub some-op : (os : List Op) → IsTrue (is_company os) → 1 ≤ length os
@@ -120,7 +118,7 @@ module _ (w : Around) (seen : Tree) (c : SeenClient) (s : ClientIsSound w seen c
       let is = Is w seen c s basis sealed e in
       let d = delivered w seen c s basis sealed e in
       let generation : (Whole w seen c s basis sealed e).sealed.members.generation ≡ w.tables.members.generation =
-          ap (λ m. m.generation) is.seen ∙ ap (λ m. m.generation) (current w seen c s basis sealed e).0.rests.members in
+      ap (λ m. m.generation) is.seen ∙ ap (λ m. m.generation) (current w seen c s basis sealed e).0.rests.members in
       let own : s.log.generation ≡ w.tables.members.generation = d.generation_is ∙ ap (λ m. m.generation) (current w seen c s basis sealed e).0.rests.members in
       let mark : mark_of (look c.log.log.0 w.tables.logs) ≤ s.log.at = s.log.current.unmarked own in
       let log : c.log.log ≡ Made.log = log_is w seen c s basis sealed e ∙ sym is.is_batch.of_log in
@@ -131,8 +129,8 @@ module _ (w : Around) (seen : Tree) (c : SeenClient) (s : ClientIsSound w seen c
       ap (λ (t : Bool). if t then below_mark (mark_of (look Made.log.0 w.tables.logs)) Pieces else Some (Regen (Whole w seen c s basis sealed e).sealed.members.generation w.tables.members.generation))
       (same-number (Whole w seen c s basis sealed e).sealed.members.generation w.tables.members.generation generation)
       ∙ none-below (mark_of (look Made.log.0 w.tables.logs)) Pieces low where
-    same-number : (n m : ℕ) → n ≡ m → (n == m) ≡ true
-    same-number n m e = grind (arith, nat_tests)
+        same-number : (n m : ℕ) → n ≡ m → (n == m) ≡ true
+        same-number n m e = grind (arith, nat_tests)
 
   -- ---- it isn't stale, and wears nothing out
 
@@ -167,6 +165,6 @@ module _ (w : Around) (seen : Tree) (c : SeenClient) (s : ClientIsSound w seen c
       → commit_refusal w.z.block w.tables sealed.batch sealed.placed.pieces sealed.members.generation ≡ Some fault → is_fresh w.tables c ≡ false
   refused-old may number fault is =
       cond-old (is_fresh w.tables c) (λ t. none-some fault (sym (fresh-committed may number t) ∙ is)) where
-    cond-old : (t : Bool) → (t ≡ true → ⊥) → t ≡ false
-    cond-old true no_way = absurd (no_way refl)
-    cond-old false no_way = refl
+        cond-old : (t : Bool) → (t ≡ true → ⊥) → t ≡ false
+        cond-old true no_way = absurd (no_way refl)
+        cond-old false no_way = refl

@@ -1,5 +1,5 @@
 -- When fewer steps are left.
-use Rattle.std.proofs.Common.{◌≡◌, ℕ, zero, suc, ◌+◌, ◌-◌, ◌*◌, ◌<◌, ◌≤◌, Bool, true, false, List, [], ◌∷◌, ◌++◌, length, Option, Some, None, refl, sym, ap, ◌∙◌, subst, arith}
+use Rattle.std.proofs.Common.{◌≡◌, ℕ, suc, ◌+◌, ◌-◌, ◌*◌, ◌<◌, ◌≤◌, Bool, true, false, List, [], ◌∷◌, length, Option, Some, None, refl, ap, ◌∙◌, arith}
 use Rattle.zb_tables.specs.Tables.{Tables}
 use Rattle.zb_tables.specs.Taking.{Sizes}
 use Rattle.zb_basis.specs.declared.calls.Numbered.{Numbered}
@@ -56,20 +56,20 @@ pub step-falls : (z : Sizes) (t : Tables) (c d : SeenClient) (task : Task) (new 
 step-falls z t c d task new own is kept queue block lt =
     let now : step_of d.task ≡ new = ap step_of is ∙ at-new new task c.task own in
     let ranks : rank d ≡ rank c =
-        ap (λ (q : List Numbered). 3 * length q + length d.kept + work_rank (aim_of d.task)) queue
-        ∙ ap (λ (k : List Numbered). 3 * length c.queue + length k + work_rank (aim_of d.task)) kept
-        ∙ ap (λ (o : Option Aim). 3 * length c.queue + length c.kept + work_rank o) (ap aim_of is ∙ same-aim new c.task) in
+    ap (λ (q : List Numbered). 3 * length q + length d.kept + work_rank (aim_of d.task)) queue
+    ∙ ap (λ (k : List Numbered). 3 * length c.queue + length k + work_rank (aim_of d.task)) kept
+    ∙ ap (λ (o : Option Aim). 3 * length c.queue + length c.kept + work_rank o) (ap aim_of is ∙ same-aim new c.task) in
     let fresh : is_fresh t d ≡ is_fresh_at t c.block c.kept new =
-        ap (λ (b : ℕ). is_fresh_at t b d.kept (step_of d.task)) block ∙ ap (λ (k : List Numbered). is_fresh_at t c.block k (step_of d.task)) kept
-        ∙ ap (is_fresh_at t c.block c.kept) now in
+    ap (λ (b : ℕ). is_fresh_at t b d.kept (step_of d.task)) block ∙ ap (λ (k : List Numbered). is_fresh_at t c.block k (step_of d.task)) kept
+    ∙ ap (is_fresh_at t c.block c.kept) now in
     let left : stage z (step_of d.task) + stale_steps z (is_fresh t d) ≡ stage z new + stale_steps z (is_fresh_at t c.block c.kept new) =
-        ap (λ (s : Step). stage z s + stale_steps z (is_fresh t d)) now ∙ ap (λ (b : Bool). stage z new + stale_steps z b) fresh in
+    ap (λ (s : Step). stage z s + stale_steps z (is_fresh t d)) now ∙ ap (λ (b : Bool). stage z new + stale_steps z b) fresh in
     stage-falls z t c d ranks (omega (arith, left, lt))
 
 pub others-add : (z : Sizes) (t u : Tables) (c : SeenClient) → steps_left z u c < steps_left z t c + round z
 others-add z t u c =
     let most = at-most (is_fresh u c) in
     omega (arith, most) where
-  at-most : (fresh : Bool) → stale_steps z fresh ≤ steps_from_lookup z
-  at-most true = omega arith
-  at-most false = omega arith
+      at-most : (fresh : Bool) → stale_steps z fresh ≤ steps_from_lookup z
+      at-most true = omega arith
+      at-most false = omega arith

@@ -1,6 +1,5 @@
 -- How the next batch or the read goes on with what is there, with fewer steps.
-use Rattle.std.proofs.Common.{◌≡◌, ℕ, ◌+◌, ◌-◌, ◌*◌, ◌<◌, ◌≤◌, Bool, true, false, List, [], ◌∷◌, length, Option, Some, None, refl, sym, ap, ◌∙◌, subst, arith}
-use Rattle.zb_types.specs.declared.calls.Reply.{Reply}
+use Rattle.std.proofs.Common.{◌≡◌, ℕ, ◌+◌, ◌-◌, ◌*◌, ◌<◌, Bool, true, List, [], ◌∷◌, length, Option, Some, None, refl, sym, ap, ◌∙◌, subst, arith}
 use Rattle.zb_types.specs.declared.ids.Ptr.{Ptr}
 use Rattle.zb_types.specs.declared.lines.Said.{Said}
 use Rattle.zb_types.specs.declared.lines.Said.TheVariants as said
@@ -18,10 +17,9 @@ use Rattle.zb_basis.specs.Forming.{log_from, readers_out}
 use Rattle.zb_basis.specs.Looking.{asks_of}
 use Rattle.zb_basis.specs.Runs.{run_of}
 use Rattle.zb_work.specs.Blocks.{next_missing}
-use Rattle.zb_work.specs.declared.work.Step.{Step}
 use Rattle.zb_work.specs.declared.work.Step.TheVariants as step
 use Rattle.zb_work.specs.declared.work.Task.{Task}
-use Rattle.zb_work.specs.Steps.{first_members, step_of, with_step}
+use Rattle.zb_work.specs.Steps.{first_members, step_of}
 use Rattle.zb_client.specs.Seen.{SeenClient, at_step}
 use Rattle.zb_client.specs.Hearing.{GoesOn, GoesOnAt, HasAll, RepliesFirst, behind, log_for}
 use Rattle.zb_client.specs.Telling.{Heard, answers_first, silent}
@@ -29,7 +27,7 @@ use Rattle.zb_client_laws.specs.Around.{Around, IsAround}
 use Rattle.zb_client_laws.specs.Known.{HasSizes, IsKnown}
 use Rattle.zb_client_laws.specs.Sound.{ClientIsSound}
 use Rattle.zb_progress.specs.Fresh.{is_fresh, is_fresh_at, is_now}
-use Rattle.zb_progress.specs.Left.{missing_bytes, most_requests, rank, stage, stale_steps, steps_left}
+use Rattle.zb_progress.specs.Left.{missing_bytes, most_requests, stage, stale_steps, steps_left}
 use Rattle.zb_progress.proofs.Falling.{at-new, rank-falls, step-falls}
 use Rattle.zb_progress.proofs.Requests.{requests-few}
 

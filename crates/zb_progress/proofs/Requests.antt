@@ -1,7 +1,6 @@
 -- A batch that is being stored has few requests left.
-use Rattle.std.proofs.Common.{◌≡◌, ℕ, zero, suc, ◌+◌, ◌-◌, ◌*◌, ◌<◌, ◌≤◌, Bool, true, false, List, [], ◌∷◌, ◌++◌, length, length-append, Option, Some, None, refl, sym, ap, ◌∙◌, subst, arith}
-use Rattle.std.specs.Prelude.{◌==◌, if◌then◌else◌}
-use Rattle.std.specs.List.{AllZip, concat}
+use Rattle.std.proofs.Common.{◌≡◌, ℕ, zero, suc, ◌+◌, ◌-◌, ◌*◌, ◌≤◌, List, [], ◌∷◌, length, length-append, Option, refl, ap, ◌∙◌, subst, arith}
+use Rattle.std.specs.Prelude.{◌==◌}
 use Rattle.std.proofs.lemmas.Bool.{cond_both}
 use Rattle.std.proofs.lemmas.Nat.{mul-le}
 use Rattle.std.proofs.lemmas.Slice.Zip.{AllZip-long}
@@ -132,7 +131,7 @@ module _ (slots : ℕ) (w : Around) (a : IsAround slots w) (seen : Tree) (c : Se
   requests-few =
       let was = delivering.was in
       let pieces = pieces-few w.z slots c.log c.batch (first_members basis.found) (run_of c.kept) basis was.whole was.given w.contents a.limits was.is was.are room size
-          (short_run c.kept s.short) fetched c.kept refl in
+      (short_run c.kept s.short) fetched c.kept refl in
       let stored = was.is.stored was.given was.are in
       let long = AllZip-long IsPartOf was.whole.sealed.placed.pieces Stored.parts stored.pieces in
       let low = a.limits.servers_low in

@@ -1,17 +1,15 @@
 -- The steps that look nothing up: a call is taken, a request stored, a batch committed.
-use Rattle.std.proofs.Common.{◌≡◌, ◌⊎◌, ℕ, zero, suc, ◌+◌, ◌-◌, ◌*◌, ◌<◌, ◌≤◌, Bool, true, false, List, [], ◌∷◌, ◌++◌, length, length-append, length-drop, take, drop, Option, Some, None, refl, sym, ap, ◌∙◌, subst, arith}
-use Rattle.std.specs.Prelude.{◌&&◌, if◌then◌else◌, nat_lt, slice_get}
+use Rattle.std.proofs.Common.{◌≡◌, ℕ, ◌+◌, ◌*◌, ◌<◌, ◌≤◌, Bool, true, false, List, [], ◌∷◌, ◌++◌, length, length-append, length-drop, take, drop, Option, Some, None, refl, sym, ap, ◌∙◌, subst, arith}
+use Rattle.std.specs.Prelude.{◌&&◌, nat_lt, slice_get}
 use Rattle.std.proofs.lemmas.Bool.{cond_both}
 use Rattle.std.proofs.lemmas.List.{length-take}
 use Rattle.std.proofs.lemmas.Option.{none-some}
 use Rattle.zb_types.specs.declared.calls.Reply.{Reply}
 use Rattle.zb_types.specs.declared.ids.ServerId.{ServerId}
-use Rattle.zb_types.specs.declared.lines.Said.{Said}
 use Rattle.zb_types.specs.declared.lines.Said.TheVariants as said
 use Rattle.zb_types.specs.declared.nodes.Cause.{Cause}
 use Rattle.zb_types.specs.declared.nodes.Cause.TheVariants.{NoSpace}
 use Rattle.zb_types.specs.declared.requests.Request.{Request}
-use Rattle.zb_types.specs.declared.requests.Response.{Response}
 use Rattle.zb_types.specs.declared.requests.Response.TheVariants as told
 use Rattle.zb_types.specs.declared.requests.StoreFault.TheVariants as fault
 use Rattle.zb_types.specs.declared.tables.CommitFault.{CommitFault}
@@ -41,7 +39,7 @@ use Rattle.zb_client.specs.Telling.{Heard, answers_first, gives_up_aim, gives_up
 use Rattle.zb_client_laws.specs.Around.{Around}
 use Rattle.zb_client_laws.specs.Known.{IsKnown}
 use Rattle.zb_client_laws.specs.Sound.{ClientIsSound}
-use Rattle.zb_client_laws.proofs.Delivered.{Is, delivered}
+use Rattle.zb_client_laws.proofs.Delivered.{delivered}
 use Rattle.zb_client_laws.proofs.Lasting.{looks_again, next_looks}
 use Rattle.zb_progress.specs.Fresh.{is_fresh, is_fresh_at}
 use Rattle.zb_progress.specs.Left.{rank, stage, stale_steps, steps_from_lookup, steps_left, work_rank}
@@ -176,12 +174,12 @@ module _ (z : Sizes) (t : Tables) (c : SeenClient) where
     looks-falls : (o : Option Task) (d : SeenClient) → aim_of o ≡ aim_of c.task → d.task ≡ with_step step.Lookup o → d.kept ≡ c.kept → d.queue ≡ c.queue → steps_left z t d < steps_left z t c
     looks-falls o d aim task kept queue =
         let ranks : rank d ≡ rank c =
-            ap (λ (q : List Numbered). 3 * length q + length d.kept + work_rank (aim_of d.task)) queue
-            ∙ ap (λ (k : List Numbered). 3 * length c.queue + length k + work_rank (aim_of d.task)) kept
-            ∙ ap (λ (a : Option Aim). 3 * length c.queue + length c.kept + work_rank a) (ap aim_of task ∙ same-aim step.Lookup o ∙ aim) in
+        ap (λ (q : List Numbered). 3 * length q + length d.kept + work_rank (aim_of d.task)) queue
+        ∙ ap (λ (k : List Numbered). 3 * length c.queue + length k + work_rank (aim_of d.task)) kept
+        ∙ ap (λ (a : Option Aim). 3 * length c.queue + length c.kept + work_rank a) (ap aim_of task ∙ same-aim step.Lookup o ∙ aim) in
         let now = at-lookup z t d (ap step_of task ∙ looks_again o) in
         let was : stage z (step_of c.task) + stale_steps z (is_fresh t c) ≡ 1 + steps_from_lookup z =
-            ap (λ (s : Step). stage z s + stale_steps z (is_fresh t c)) e ∙ ap (λ (b : Bool). 1 + stale_steps z b) old in
+        ap (λ (s : Step). stage z s + stale_steps z (is_fresh t c)) e ∙ ap (λ (b : Bool). 1 + stale_steps z b) old in
         stage-falls z t c d ranks (omega (arith, now, was))
 
     tried-aim : (o : Option Task) → aim_of (tried o) ≡ aim_of o
@@ -218,7 +216,7 @@ module _ (w : Around) (seen : Tree) (c : SeenClient) (known : IsKnown c) (s : Cl
   commit-falls replies after count =
       let d = delivered w seen c s basis sealed e in
       let own : 1 ≤ length sealed.batch.ops =
-          subst (λ (x : Sealed). 1 ≤ length x.batch.ops) (sym d.sealed_is) (some-op d.was.whole.sealed.batch.ops d.was.is.spelled.company) in
+      subst (λ (x : Sealed). 1 ≤ length x.batch.ops) (sym d.sealed_is) (some-op d.was.whole.sealed.batch.ops d.was.is.spelled.company) in
       let fits = (subst (λ (st : Step). StepFits c.servers c.fragment c.block c.log c.kept c.queue c.doubted st) e known.work).count in
       let some = some-kept c.kept (omega (arith, own, fits)) in
       let fewer = length-drop (length replies) c.kept in

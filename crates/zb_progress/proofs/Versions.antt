@@ -1,9 +1,8 @@
 -- The operations of a batch whose lookups are at the versions of the tables: none is stale, and none wears a version out.
-use Rattle.std.proofs.Common.{◌≡◌, ◌⊎◌, ℕ, zero, suc, ◌+◌, ◌-◌, ◌%◌, ◌<◌, ◌≤◌, Bool, true, false, eqb, List, [], ◌∷◌, length, map, Option, Some, None, refl, sym, ap, ◌∙◌, subst, inl, inr, arith}
+use Rattle.std.proofs.Common.{◌≡◌, ℕ, zero, suc, ◌+◌, ◌-◌, ◌%◌, ◌<◌, ◌≤◌, Bool, true, false, eqb, List, [], ◌∷◌, length, map, Option, Some, None, refl, sym, ap, ◌∙◌, subst, inl, inr, arith}
 use Rattle.std.specs.Prelude.{◌==◌, ◌||◌, ◌&&◌, is_some, nat_le, nat_lt, if◌then◌else◌, Result, Ok, Err}
-use Rattle.std.specs.Bool.{MatchBool}
 use Rattle.std.specs.List.{AllByRecursion}
-use Rattle.std.proofs.lemmas.Bool.{and_parts, cases_Bool, cases_lt, cond_both, eqb-true, false≢true, ltb-false, ltb-true}
+use Rattle.std.proofs.lemmas.Bool.{and_parts, cond_both, eqb-true, false≢true, ltb-false, ltb-true}
 use Rattle.std.proofs.lemmas.Bool.Decides.{nat_tests}
 use Rattle.std.proofs.lemmas.Option.{none-some}
 use Rattle.zb_types.specs.declared.ids.Fid.{Fid}
@@ -173,29 +172,29 @@ module _ (first : Files) (room : AllRoom first) (s : Shelf) (changed : Changed) 
       let same : version ≡ file.version = omega arith in
       let less : file.version < last_value = omega arith in
       by (nat_lt max_file end) refl same (omega arith) less (rises file ∙ up-one file.version less) where
-    some-now : (v r : ℕ) → 1 ≤ v → (if v == 0 then 0 else v + r) ≡ v + r
-    some-now v r le = grind (arith, nat_tests)
+        some-now : (v r : ℕ) → 1 ≤ v → (if v == 0 then 0 else v + r) ≡ v + r
+        some-now v r le = grind (arith, nat_tests)
 
-    up-one : (v : ℕ) → v < last_value → risen v ≡ v + 1
-    up-one v l = grind (arith, nat_tests)
+        up-one : (v : ℕ) → v < last_value → risen v ≡ v + 1
+        up-one v l = grind (arith, nat_tests)
 
-    not-worn : (v e : ℕ) → v < last_value → (v == last_value && nat_le e max_file) ≡ false
-    not-worn v e l = grind (arith, nat_tests)
+        not-worn : (v e : ℕ) → v < last_value → (v == last_value && nat_le e max_file) ≡ false
+        not-worn v e l = grind (arith, nat_tests)
 
-    by : (big : Bool) → nat_lt max_file end ≡ big → version ≡ file.version → 1 ≤ version → file.version < last_value → (make file).version ≡ file.version + 1 → Made (Some file)
-    by true e same some less up = record {
-      next = replied s (Refused TooBig);
-      is = at-version file same ∙ ap (λ (t : Bool). if t then Ok (replied s (Refused TooBig)) else Ok (with_state s fid (make file))) e;
-      fresh = not-worn file.version end less;
-      leaves = kept s.files refl (done-false version end (ltb-true max_file end e));
-    }
-    by false e same some less up = record {
-      next = with_state s fid (make file);
-      is = at-version file same ∙ ap (λ (t : Bool). if t then Ok (replied s (Refused TooBig)) else Ok (with_state s fid (make file))) e;
-      fresh = not-worn file.version end less;
-      leaves = subst (λ (t : Bool). Follows first (if t then with_file changed fid moved else changed).rose (n + 1) (replaced fid.0 (make file) s.files))
-          (sym (done-true version end some (ltb-false max_file end e))) (raised-file file there up was at v);
-    }
+        by : (big : Bool) → nat_lt max_file end ≡ big → version ≡ file.version → 1 ≤ version → file.version < last_value → (make file).version ≡ file.version + 1 → Made (Some file)
+        by true e same some less up = record {
+          next = replied s (Refused TooBig);
+          is = at-version file same ∙ ap (λ (t : Bool). if t then Ok (replied s (Refused TooBig)) else Ok (with_state s fid (make file))) e;
+          fresh = not-worn file.version end less;
+          leaves = kept s.files refl (done-false version end (ltb-true max_file end e));
+        }
+        by false e same some less up = record {
+          next = with_state s fid (make file);
+          is = at-version file same ∙ ap (λ (t : Bool). if t then Ok (replied s (Refused TooBig)) else Ok (with_state s fid (make file))) e;
+          fresh = not-worn file.version end less;
+          leaves = subst (λ (t : Bool). Follows first (if t then with_file changed fid moved else changed).rose (n + 1) (replaced fid.0 (make file) s.files))
+              (sym (done-true version end some (ltb-false max_file end e))) (raised-file file there up was at v);
+        }
 
   made : (o : Option FileState) → look fid.0 s.files ≡ o → Made o
   made None there = record {
@@ -222,7 +221,7 @@ module _ (b : ℕ) (bytes : Bytes) (first : Files) (room : AllRoom first) where
     write-goes number m fid g offset at text version len deltas found eg ev looked =
         let here : found.version ≡ version_of (look g.0 first) = looked ∙ ap (λ (f : Fid). version_of (look f.0 first)) (to-fid b fid offset (end_of offset (length text)) ∙ sym eg) in
         let r = made first room s changed n small follows g version (at + len) (after_write (at + len) deltas) (λ k. or_before (new_of k deltas) (changed.moved g.0 k)) found (λ file. refl)
-            (ev ∙ ap (version_now changed found) (sym eg)) here (look g.0 s.files) refl in
+        (ev ∙ ap (version_now changed found) (sym eg)) here (look g.0 s.files) refl in
         record { next = r.next; is = r.is; fresh = r.fresh; follows = r.leaves }
 
     cut-goes : (m : ℕ) (fid g : Fid) (size to : ℕ) (version : ℕ) (deltas : List Delta) (found : Found) → g ≡ fid → version ≡ version_now changed found fid
@@ -230,7 +229,7 @@ module _ (b : ℕ) (bytes : Bytes) (first : Files) (room : AllRoom first) where
     cut-goes m fid g size to version deltas found eg ev looked =
         let here : found.version ≡ version_of (look g.0 first) = looked ∙ ap (λ (f : Fid). version_of (look f.0 first)) (range-fid b fid (size - size % b) size ∙ sym eg) in
         let r = made first room s changed n small follows g version to (after_cut b to deltas) (λ k. or_before (new_of k deltas) (if nat_le (blocks_in b to) k then Some None else changed.moved g.0 k)) found
-            (λ file. refl) (ev ∙ ap (version_now changed found) (sym eg)) here (look g.0 s.files) refl in
+        (λ file. refl) (ev ∙ ap (version_now changed found) (sym eg)) here (look g.0 s.files) refl in
         record { next = r.next; is = r.is; fresh = r.fresh; follows = r.leaves }
 
     sync-goes : (m : ℕ) → Goes b first (n + 1) changed s (op.Sync m)
@@ -358,12 +357,12 @@ module _ (z : Sizes) (t : Tables) (bytes : Bytes) (kept : List Numbered) (basis 
   by-run : RunIs (run_of kept) → IsDone
   by-run (inl one) =
       let e = one-ends z.block bytes t.files (room-all z t form may) one.0 basis.found os unchanged (shelf_of t) one.2
-          (subst (λ (cs : List Numbered). OpsMean z.block bytes unchanged cs basis.found os) one.1 are) in
+      (subst (λ (cs : List Numbered). OpsMean z.block bytes unchanged cs basis.found os) one.1 are) in
       ((e.after, e.done), e.fresh)
   by-run (inr group) =
       let e = ops-end z.block bytes t.files (room-all z t form may) (run_of kept) basis.found os unchanged 0 (shelf_of t) are group
-          (numbers-same (versions_of basis.found) (versions_of (founds t (asks_of z.block (run_of kept)))) same ∙ versions-now z.block t (run_of kept))
-          (let few = run-few kept in omega arith) (record { each = λ k. raised-first (look k t.files); few = λ k. omega arith }) in
+      (numbers-same (versions_of basis.found) (versions_of (founds t (asks_of z.block (run_of kept)))) same ∙ versions-now z.block t (run_of kept))
+      (let few = run-few kept in omega arith) (record { each = λ k. raised-first (look k t.files); few = λ k. omega arith }) in
       ((e.after, e.done), e.fresh)
 
   pub batch-done : IsDone

@@ -1,9 +1,9 @@
 -- How many bytes are wanted at most for a batch or a read.
-use Rattle.std.proofs.Common.{◌≡◌, ℕ, zero, suc, ◌+◌, ◌-◌, ◌*◌, ◌/◌, ◌%◌, ◌<◌, ◌≤◌, min, max, Bool, true, false, List, [], ◌∷◌, ◌++◌, length, length-append, map, filter, Option, Some, None, refl, sym, ap, ◌∙◌, subst, arith}
-use Rattle.std.specs.Prelude.{◌==◌, ◌&&◌, ◌||◌, not, if◌then◌else◌, nat_le, nat_lt, All, AllPairs, slice_index_or}
-use Rattle.std.specs.List.{AllByRecursion, AllZip, flat_map, range_with_len}
+use Rattle.std.proofs.Common.{ℕ, zero, suc, ◌+◌, ◌-◌, ◌*◌, ◌/◌, ◌<◌, ◌≤◌, min, Bool, true, false, List, [], ◌∷◌, length, length-append, filter, Option, Some, None, arith}
+use Rattle.std.specs.Prelude.{◌==◌, ◌&&◌, ◌||◌, not, if◌then◌else◌, nat_le, AllPairs, slice_index_or}
+use Rattle.std.specs.List.{AllByRecursion, flat_map, range_with_len}
 use Rattle.std.proofs.Math.Nat.{div-le_self}
-use Rattle.std.proofs.lemmas.Bool.{and_parts, cond_both, leb-true}
+use Rattle.std.proofs.lemmas.Bool.{cond_both, leb-true}
 use Rattle.std.proofs.lemmas.Bool.Decides.{nat_tests}
 use Rattle.std.proofs.lemmas.List.{length-map}
 use Rattle.std.proofs.lemmas.Nat.{mul-le}
@@ -19,9 +19,8 @@ use Rattle.zb_basis.specs.declared.asks.Ask.{Ask}
 use Rattle.zb_basis.specs.declared.calls.Numbered.{Numbered}
 use Rattle.zb_basis.specs.Looking.{AreFoundFor, IsFoundBlock, MayFind, ask_of, ask_range, ask_to, asks_of, end_of}
 use Rattle.zb_basis.specs.Operations.{is_done, is_longer}
-use Rattle.zb_basis.specs.Reading.{is_read}
 use Rattle.zb_basis.specs.Runs.{run_of}
-use Rattle.zb_basis.specs.Wanting.{has_other, reaches, touches, wanted_at, wanted_behind, wanted_by, wanted_by_read, wanted_in, wanted_of, wanted_of_write}
+use Rattle.zb_basis.specs.Wanting.{has_other, reaches, touches, wanted_at, wanted_behind, wanted_by_read, wanted_in, wanted_of, wanted_of_write}
 use Rattle.zb_basis.proofs.Each.{each-of, each-weaker}
 use Rattle.zb_basis.proofs.Found.{filter-each, wanted-each}
 use Rattle.zb_cache.specs.Entries.{SeenCache}
@@ -65,7 +64,7 @@ call-few b (Write fid offset text) found touched =
     let ask = ask_of b (Write fid offset text) in
     let few = to-few b fid offset (length text) in
     let most = flat-few (wanted_of_write b (touched fid.0) offset (offset + length text) found)
-        (λ k. at-few (touched fid.0 k) (has_other b offset (offset + length text) k (look k found.blocks)) (look k found.blocks)) ask.first ask.count in
+    (λ k. at-few (touched fid.0 k) (has_other b offset (offset + length text) k (look k found.blocks)) (look k found.blocks)) ask.first ask.count in
     cond_both (is_done found.version (offset + length text)) (flat_map (wanted_of_write b (touched fid.0) offset (offset + length text) found) (range_with_len ask.first ask.count)) [] (AtMost max_file)
     (λ _. omega (arith, few, most)) (λ _. omega arith)
 call-few b (Truncate fid n) found touched =
@@ -101,10 +100,10 @@ rising-few (e ∷ es) from end within rise =
     let here = within.0 in
     let rest = rising-few es (e.0 + 1) end (above es within.1 (λ k l. rise 0 (suc k) e (omega arith) (omega (arith, l)))) (λ i j d less l. rise (suc i) (suc j) d (omega arith) (omega (arith, l))) in
     omega (arith, here, rest) where
-  above : (xs : List (ℕ × Ptr)) → AllByRecursion (λ (x : ℕ × Ptr). (from ≤ x.0) × (x.0 < end)) xs → ((k : ℕ) → k < length xs → e.0 < (slice_index_or xs k e).0)
-      → AllByRecursion (λ (x : ℕ × Ptr). (e.0 + 1 ≤ x.0) × (x.0 < end)) xs
-  above [] all less = tt
-  above (x ∷ xs) all less = ((let l = less 0 (omega arith) in omega (arith, l), all.0.1), above xs all.1 (λ k l. less (suc k) (omega (arith, l))))
+      above : (xs : List (ℕ × Ptr)) → AllByRecursion (λ (x : ℕ × Ptr). (from ≤ x.0) × (x.0 < end)) xs → ((k : ℕ) → k < length xs → e.0 < (slice_index_or xs k e).0)
+          → AllByRecursion (λ (x : ℕ × Ptr). (e.0 + 1 ≤ x.0) × (x.0 < end)) xs
+      above [] all less = tt
+      above (x ∷ xs) all less = ((let l = less 0 (omega arith) in omega (arith, l), all.0.1), above xs all.1 (λ k l. less (suc k) (omega (arith, l))))
 
 filter-few : (test : ℕ × Ptr → Bool) (es : List (ℕ × Ptr)) → length (filter test es) ≤ length es
 filter-few test [] = omega arith
@@ -117,7 +116,7 @@ found-few b room fid offset len found may =
     let ask = ask_of b (Read fid offset len) in
     let few = range-few b fid offset (min (offset + len) max_file) (omega arith) in
     let most = rising-few found.blocks ask.first (ask.first + ask.count)
-        (each-weaker (IsFoundBlock b room ask) (λ (e : ℕ × Ptr). (ask.first ≤ e.0) × (e.0 < ask.first + ask.count)) found.blocks (λ e is. (is.begins, is.ends)) (each-of (IsFoundBlock b room ask) found.blocks may.blocks)) may.rise in
+    (each-weaker (IsFoundBlock b room ask) (λ (e : ℕ × Ptr). (ask.first ≤ e.0) × (e.0 < ask.first + ask.count)) found.blocks (λ e is. (is.begins, is.ends)) (each-of (IsFoundBlock b room ask) found.blocks may.blocks)) may.rise in
     omega (arith, few, most)
 
 in-few : (b from to : ℕ) (found : Found) → length found.blocks ≤ max_file → AtMost max_file (wanted_in b from to found)

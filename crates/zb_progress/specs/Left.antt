@@ -9,7 +9,6 @@ use Rattle.zb_work.specs.declared.work.Aim.TheVariants.{Update, Read, Finish}
 use Rattle.zb_work.specs.declared.work.Step.{Step}
 use Rattle.zb_work.specs.declared.work.Step.TheVariants.{Lookup, Fetch, Store, Mark, Commit}
 use Rattle.zb_work.specs.declared.work.Aim.{Aim}
-use Rattle.zb_work.specs.declared.work.Task.{Task}
 use Rattle.zb_work.specs.Blocks.{is_missing}
 use Rattle.zb_work.specs.Steps.{aim_of, step_of}
 use Rattle.zb_client.specs.Seen.{SeenClient}

@@ -1,6 +1,6 @@
 use Rattle.std.proofs.Common.{refl}
 use Rattle.zb_client_laws.specs.Effects.{after_commit}
-use Rattle.zb_progress.proofs.Falling.{others-add, rank-falls, stage-falls}
+use Rattle.zb_progress.proofs.Falling.{others-add}
 use Rattle.zb_progress.proofs.beside.others_leave_steps.Goals as goal
 
 pub returns-clause-request : goal.returns-clause-request

@@ -8,6 +8,7 @@ mod commits;
 mod fetches;
 mod inside;
 mod lookups;
+mod numbers;
 mod stores;
 
 pub use batches::fresh_batches_are_committed;
@@ -16,4 +17,5 @@ pub use commits::commits_leave_fewer_steps;
 pub use fetches::fetches_leave_fewer_steps;
 pub use inside::calls_leave_fewer_steps;
 pub use lookups::lookups_leave_fewer_steps;
+pub use numbers::numbers_rise_slowly;
 pub use stores::stores_leave_fewer_steps;

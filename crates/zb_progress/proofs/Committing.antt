@@ -1,5 +1,5 @@
 -- A stored batch whose lookups are at the versions of the tables is not refused.
-use Rattle.std.proofs.Common.{◌≡◌, ℕ, ◌-◌, ◌+◌, ◌≤◌, ◌<◌, Bool, true, false, List, [], ◌∷◌, Option, Some, None, refl, sym, ap, ◌∙◌, subst, arith}
+use Rattle.std.proofs.Common.{◌≡◌, ℕ, ◌-◌, ◌≤◌, ◌<◌, Bool, true, false, List, [], ◌∷◌, Option, Some, None, refl, sym, ap, ◌∙◌, subst, arith}
 use Rattle.std.specs.Prelude.{IsTrue, length, ◌==◌, nat_le, nat_lt, if◌then◌else◌, Result, Ok, Err}
 use Rattle.std.specs.List.{AllByRecursion}
 use Rattle.std.proofs.lemmas.Bool.{false≢true}
@@ -80,6 +80,12 @@ not-worn n m worn low most e =
 pub some-op : (os : List Op) → IsTrue (is_company os) → 1 ≤ length os
 some-op [] t = absurd (false≢true t)
 some-op (o ∷ os) t = omega arith
+
+-- a stored batch has at most eight operations
+pub sealed-few : (w : Around) (seen : Tree) (c : SeenClient) (s : ClientIsSound w seen c) (basis : Basis) (sealed : Sealed) → step_of c.task ≡ step.Commit basis sealed → length sealed.batch.ops ≤ most_kept
+sealed-few w seen c s basis sealed e =
+    subst (λ (x : Sealed). length x.batch.ops ≤ most_kept) (sym (delivered w seen c s basis sealed e).sealed_is)
+    (company-few (Whole w seen c s basis sealed e).sealed.batch.ops (Is w seen c s basis sealed e).spelled.company)
 
 module _ (w : Around) (seen : Tree) (c : SeenClient) (s : ClientIsSound w seen c) (basis : Basis) (sealed : Sealed) (e : step_of c.task ≡ step.Commit basis sealed)
     (slots : ℕ) (a : IsAround slots w) where

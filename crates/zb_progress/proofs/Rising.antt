@@ -1,13 +1,11 @@
 -- How far the operations of a batch raise the versions of the files.
-use Rattle.std.proofs.Common.{◌≡◌, ◌⊎◌, ℕ, zero, suc, ◌+◌, ◌-◌, ◌*◌, ◌<◌, ◌≤◌, Bool, true, false, eqb, List, [], ◌∷◌, length, Option, Some, None, refl, sym, ap, ◌∙◌, subst, inl, inr, arith}
-use Rattle.std.specs.Prelude.{◌==◌, ◌||◌, ◌&&◌, IfOk, IsTrue, nat_le, nat_lt, not, if◌then◌else◌, Result, Ok, Err}
+use Rattle.std.proofs.Common.{◌≡◌, ℕ, suc, ◌+◌, ◌-◌, ◌*◌, ◌<◌, ◌≤◌, Bool, false, eqb, List, [], ◌∷◌, length, Option, Some, None, refl, sym, ap, ◌∙◌, subst, arith}
+use Rattle.std.specs.Prelude.{◌==◌, ◌||◌, ◌&&◌, IfOk, IsTrue, nat_le, nat_lt, not, Result, Ok, Err}
 use Rattle.std.specs.List.{AllByRecursion, list_all}
-use Rattle.std.proofs.lemmas.Bool.{and_parts, cond_both, false≢true}
+use Rattle.std.proofs.lemmas.Bool.{and_parts, cond_both}
 use Rattle.std.proofs.lemmas.Bool.Decides.{nat_tests}
 use Rattle.zb_types.specs.declared.calls.Call.{Call}
 use Rattle.zb_types.specs.declared.calls.Refusal.{Refusal}
-use Rattle.zb_types.specs.declared.calls.Refusal.TheVariants.{Gone, TooBig}
-use Rattle.zb_types.specs.declared.calls.Reply.TheVariants.{Done, Refused}
 use Rattle.zb_types.specs.declared.ids.Fid.{Fid}
 use Rattle.zb_types.specs.declared.ids.LogId.{LogId}
 use Rattle.zb_types.specs.declared.ids.Piece.{Piece}
@@ -19,7 +17,7 @@ use Rattle.zb_types.specs.Tree.{files_after}
 use Rattle.zb_batch.specs.declared.batch.Op.{Op}
 use Rattle.zb_batch.specs.declared.batch.Op.TheVariants as op
 use Rattle.zb_batch.specs.Batches.{is_alone, is_company}
-use Rattle.zb_tables.specs.Fold.{Files, Shelf, Stale, after_cut, after_write, and_then, committed, done_op, done_ops, named, new_file, replied, resized, shelf_of, with_file as with_state}
+use Rattle.zb_tables.specs.Fold.{Files, Shelf, Stale, after_cut, after_write, and_then, committed, done_op, done_ops, named, new_file, resized, shelf_of}
 use Rattle.zb_tables.specs.Leaving.{IsOfUpdate}
 use Rattle.zb_tables.specs.Tables.{EachFile, FileState, Tables, last_value, risen}
 use Rattle.zb_tables.specs.Taking.{any_wears, is_worn, on_done, wears}
@@ -71,8 +69,8 @@ module _ (most : ℕ) (s : Shelf) (all : AtMost most s.files) where
   not-worn fid end lt (Some file) there =
       let here = each_look (λ (f : FileState). f.version ≤ most) s.files fid.0 file all there in
       below file.version end (omega (arith, here, lt)) where
-    below : (v e : ℕ) → v < last_value → (v == last_value && nat_le e max_file) ≡ false
-    below v e l = grind (arith, nat_tests)
+        below : (v e : ℕ) → v < last_value → (v == last_value && nat_le e max_file) ≡ false
+        below v e l = grind (arith, nat_tests)
 
   op-fresh : (o : Op) → IsOfUpdate o → most < last_value → wears s o ≡ false
   op-fresh (op.Name m what) is lt = refl
@@ -106,8 +104,8 @@ module _ (b : ℕ) where
   ops-rise (o ∷ os) most s are all =
       rises-behind os (most + 1) (most + length (o ∷ os)) (done_op b s o) (op-rises most s all b o are.0)
       (λ next more. same-most os next (ops-rise os (most + 1) next are.1 more)) where
-    same-most : (os : List Op) (next : Shelf) → IfOk (done_ops b os next) (λ after. AtMost (most + 1 + length os) after.files) → IfOk (done_ops b os next) (λ after. AtMost (most + suc (length os)) after.files)
-    same-most os next h = let e : most + 1 + length os ≡ most + suc (length os) = omega arith in subst (λ (n : ℕ). IfOk (done_ops b os next) (λ after. AtMost n after.files)) e h
+        same-most : (os : List Op) (next : Shelf) → IfOk (done_ops b os next) (λ after. AtMost (most + 1 + length os) after.files) → IfOk (done_ops b os next) (λ after. AtMost (most + suc (length os)) after.files)
+        same-most os next h = let e : most + 1 + length os ≡ most + suc (length os) = omega arith in subst (λ (n : ℕ). IfOk (done_ops b os next) (λ after. AtMost n after.files)) e h
 
 -- a batch has at most eight operations
 pub company-few : (os : List Op) → IsTrue (is_company os) → length os ≤ most_kept
@@ -137,7 +135,7 @@ pub commit-rises : (n b : ℕ) (t : Tables) (log : LogId) (number : ℕ) (pieces
     → done_ops b os (shelf_of t) ≡ Ok after → RoseBy n t → RoseBy (n + 1) (committed t log number pieces after)
 commit-rises n b t log number pieces os after are few done rose =
     let all : AtMost (most_kept * n + length os) after.files =
-        subst (λ (d : Result Shelf Stale). IfOk d (λ a. AtMost (most_kept * n + length os) a.files)) done (ops-rise b os (most_kept * n) (shelf_of t) are rose.versions) in
+    subst (λ (d : Result Shelf Stale). IfOk d (λ a. AtMost (most_kept * n + length os) a.files)) done (ops-rise b os (most_kept * n) (shelf_of t) are rose.versions) in
     record {
       versions = each_map (λ (f : FileState). f.version ≤ most_kept * n + length os) (λ (f : FileState). f.version ≤ most_kept * (n + 1)) (λ f le. omega (arith, le, few)) after.files all;
       entry = next-entry n t.next_entry rose.entry;

@@ -1,4 +1,4 @@
-use Rattle.std.proofs.Common.{arith, ◌≤◌, ◌+◌}
+use Rattle.std.proofs.Common.{arith}
 use Rattle.zb_progress.proofs.Rising.{commit-rises, may-rise, next-entry, versions-later}
 use Rattle.zb_progress.proofs.numbers.numbers_rise_slowly.Goals as goal
 

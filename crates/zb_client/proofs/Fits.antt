@@ -1,6 +1,5 @@
 -- What is true of a client's work stays so.
 use Rattle.std.proofs.Common.{◌≡◌, ℕ, zero, suc, ◌≤◌, Bool, true, false, List, [], ◌∷◌, ◌++◌, length, Option, refl, sym, subst, ◌∙◌, arith}
-use Rattle.zb_types.specs.declared.ids.LogId.{LogId}
 use Rattle.zb_types.specs.declared.ids.Ptr.{Ptr}
 use Rattle.zb_types.specs.declared.tables.Found.{Found}
 use Rattle.zb_log.specs.Logs.{SeenLog}
@@ -8,7 +7,6 @@ use Rattle.zb_basis.specs.declared.calls.Numbered.{Numbered}
 use Rattle.zb_basis.specs.declared.basis.Basis.{Basis}
 use Rattle.zb_basis.specs.Looking.{room_of}
 use Rattle.zb_work.specs.declared.work.Task.{Task}
-use Rattle.zb_work.specs.declared.work.Flushed.{Flushed}
 use Rattle.zb_work.specs.declared.work.Step.{Step}
 use Rattle.zb_work.specs.declared.work.Step.TheVariants.{Lookup, Fetch, Store, Mark, Commit}
 use Rattle.zb_work.specs.Steps.{step_of}
@@ -44,11 +42,9 @@ step_pushed n f b log kept queue x doubted (Mark server generation) h = h
 step_pushed n f b log kept queue x doubted (Commit basis sealed) h = h
 
 -- a call was queued
-pub kept_pushed : (n f b : ℕ) (id : LogId) (log : SeenLog) (kept queue new : List Numbered) (x : Numbered) (task : Option Task) (flushed : Option Flushed) (doubted : ℕ)
-    → IsKept n f b id log kept queue task flushed doubted → new ≡ queue ++ x ∷ [] → IsKept n f b id log kept new task flushed doubted
-kept_pushed n f b id log kept queue new x task flushed doubted k e = record {
-  log_is = k.log_is;
-  behind = k.behind;
+pub kept_pushed : (n f b : ℕ) (log : SeenLog) (kept queue new : List Numbered) (x : Numbered) (task : Option Task) (doubted : ℕ) → IsKept n f b log kept queue task doubted → new ≡ queue ++ x ∷ []
+    → IsKept n f b log kept new task doubted
+kept_pushed n f b log kept queue new x task doubted k e = record {
   updates = k.updates;
   in_doubt = k.in_doubt;
   work = subst (λ (q : List Numbered). StepFits n f b log kept q doubted (step_of task)) (sym e) (step_pushed n f b log kept queue x doubted (step_of task) k.work);

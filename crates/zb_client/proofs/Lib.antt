@@ -1,8 +1,4 @@
-pub mod Again
 pub mod Aims
-pub mod Finding
+pub mod Answered
 pub mod Fits
-pub mod Goings
-pub mod Plain
-pub mod Standing
-pub mod Stripes
+pub mod Heard

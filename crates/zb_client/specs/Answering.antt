@@ -14,27 +14,13 @@ use Rattle.zb_work.specs.declared.work.Task.{Task}
 use Rattle.zb_work.specs.declared.work.Step.{Step}
 use Rattle.zb_work.specs.declared.work.Step.TheVariants as step
 use Rattle.zb_work.specs.Fitting.{FoundFor}
+pub use Rattle.zb_steps.specs.Serving.{HasMemory, CanStore, CanFetch, CanServe, brings_bytes}
 use Rattle.zb_client.specs.declared.steps.Answer.{Answer}
 use Rattle.zb_client.specs.declared.steps.Answer.TheVariants as answer
 use Rattle.zb_client.specs.declared.steps.Lookup.{Lookup}
 use Rattle.zb_client.specs.declared.steps.Lookup.TheVariants.{Files, Names}
 use Rattle.zb_client.specs.Seen.{SeenClient}
 use Rattle.zb_client.specs.Wishing.{lookup_of}
-
--- a server that wants memory ends the run, and is no answer
-abbrev pub HasMemory : Response → Type 0
-HasMemory (told.Refused fault.NoMemory) = ⊥
-HasMemory response = Unit {0}
-
--- a response to the flush that is under way
-abbrev pub CanStore : Step → Response → Type 0
-CanStore (step.Store basis formed) response = HasMemory response
-CanStore other response = ⊥
-
--- a response to the read that is under way
-abbrev pub CanFetch : Step → Response → Type 0
-CanFetch (step.Fetch basis at ptr plan) response = AnswersRead plan.servers (asked plan) response × HasMemory response
-CanFetch other response = ⊥
 
 -- replies to the calls of the batch that is being committed
 abbrev pub CanCommit : Step → List Reply → Type 0
@@ -84,12 +70,6 @@ AnswersTask c (Some task) a = AnswersStep c task.tries task.step a
 -- this may answer the wish that stands
 abbrev pub Answers : SeenClient → Answer → Type 0
 Answers c a = AnswersTask c c.task a
-
--- does the response bring bytes?
-abbrev pub brings_bytes : Response → Bool
-brings_bytes (told.Bytes bytes) = true
-brings_bytes (told.Parity lengths bytes) = true
-brings_bytes response = false
 
 -- memory may be wanting for a move inside, for what a lookup found, and for bytes that a fetch brought
 abbrev pub MayWantMemory : Answer → Type 0

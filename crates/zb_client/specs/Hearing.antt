@@ -39,6 +39,8 @@ use Rattle.zb_work.specs.declared.work.Flushed.{Flushed}
 use Rattle.zb_work.specs.Steps.{step_of, new_task, is_commit, first_members}
 use Rattle.zb_work.specs.Blocks.{slots_of, next_missing, filled, asked_for, put_in}
 use Rattle.zb_work.specs.Fitting.{wanted_for}
+pub use Rattle.zb_steps.specs.Going.{behind, with_block, is_whole}
+pub use Rattle.zb_steps.specs.Serving.{serves, first_stripe, noted, left}
 use Rattle.zb_client.specs.declared.steps.Answer.{Answer}
 use Rattle.zb_client.specs.declared.steps.Answer.TheVariants as answer
 use Rattle.zb_client.specs.Seen.{SeenClient, at_step, leaves}
@@ -61,12 +63,6 @@ abbrev pub takes_call : SeenClient → Heard
 takes_call c = takes_first c c.queue
 
 -- A lookup is answered.
-
--- the log goes on behind the last stripe of its last flush, where the generation is another than that one's, or it
--- didn't reach its end
-abbrev pub behind : Option Flushed → ℕ → Option ℕ
-behind None generation = None
-behind (Some last) generation = if last.ended && last.generation == generation then None else Some last.stripe
 
 -- the log in which the next batch goes next, for what was looked up
 abbrev pub log_for : SeenClient → Basis → SeenLog
@@ -126,25 +122,13 @@ HearsLookup c other heard = ⊥
 
 -- A fetch is answered.
 
--- is the bit of this server set?
-abbrev pub serves : ℕ → ServerId → Bool
-serves serving server = nat_le (server.0 - 1) 31 && (bit_and (serving / 2 ^ (server.0 - 1)) 1 == 1)
-
 -- two servers didn't answer: where one of them serves again, it is looked up anew
 abbrev pub hears_unreachable : SeenClient → ServerId → ServerId → ℕ → Heard
 hears_unreachable c a b serving = if serves serving a || serves serving b then looks_anew c else gives_up c (Unreachable a b)
 
--- what the work rests on once a block's bytes have come
-abbrev pub with_block : Basis → ℕ → Ptr → List ℕ → Basis
-with_block basis at ptr bytes = record basis { fetched = filled basis.fetched at ptr bytes }
-
 -- a block was fetched, and is in the cache
 abbrev pub caches : SeenClient → Ptr → List ℕ → SeenClient
 caches c ptr bytes = record c { cache = put_in c.cache ptr bytes }
-
--- these are all bytes of a pointer, which has some
-abbrev pub is_whole : Ptr → List ℕ → Bool
-is_whole ptr bytes = length bytes == ptr.len && nat_lt 0 (length bytes)
 
 -- what the response made of the read; bytes of another length than the pointer's don't come
 abbrev pub HearsGot : SeenClient → Basis → ℕ → Ptr → Reading → ℕ → Got → Heard → Type 0
@@ -161,20 +145,6 @@ HearsFetch c (Fetch basis at ptr plan) response serving heard = HearsGot c basis
 HearsFetch c other response serving heard = ⊥
 
 -- A store is answered.
-
--- the stripe of the first of some requests
-abbrev pub first_stripe : List (ServerId × Request) → ℕ
-first_stripe [] = 0
-first_stripe (asked ∷ rest) = stripe_of asked.1
-
--- the flush once a request was answered: where all are carried out its last stripe is the one that the log goes on in
-abbrev pub noted : Formed → Fed → Flushed
-noted formed fed.Done = record { generation = formed.sealed.members.generation; stripe = formed.sealed.placed.next.stripe; ended = true }
-noted formed came = record { generation = formed.sealed.members.generation; stripe = first_stripe formed.plan; ended = false }
-
--- the batch, without the request that was carried out
-abbrev pub left : Formed → Response → Formed
-left formed response = record formed { plan = left_after formed.plan response }
 
 -- the batch is stored: the log goes on behind it, and it is to be committed
 abbrev pub stored : SeenClient → Basis → Formed → Heard

@@ -4,4 +4,4 @@ pub mod Wishing
 pub mod Answering
 pub mod Hearing
 pub mod Calling
-pub mod Going
+pub mod Working

@@ -6,15 +6,15 @@ use Rattle.zb_types.specs.declared.lines.Kind.{Kind}
 use Rattle.zb_types.specs.declared.lines.Kind.TheVariants as kind
 use Rattle.zb_types.specs.Apply.{is_update}
 use Rattle.zb_log.specs.Places.{place}
-use Rattle.zb_log.specs.Logs.{SeenLog, AreGiven}
+use Rattle.zb_log.specs.Logs.{SeenLog}
 use Rattle.zb_cache.specs.Entries.{SeenCache}
 use Rattle.zb_basis.specs.declared.calls.Numbered.{Numbered}
-use Rattle.zb_basis.specs.Looking.{room_of}
 use Rattle.zb_work.specs.declared.work.Task.{Task}
 use Rattle.zb_work.specs.declared.work.Step.{Step}
 use Rattle.zb_work.specs.declared.work.Flushed.{Flushed}
 use Rattle.zb_work.specs.Steps.{kind_of_step, with_step, aim_of, next_task}
-use Rattle.zb_work.specs.Fitting.{TaskFits, IsBehind}
+use Rattle.zb_work.specs.Fitting.{TaskFits}
+pub use Rattle.zb_steps.specs.Desks.{most_cached, IsLogOf, HasGiven}
 
 -- The sizes of the system, the client's number, its log, the number of its next batch, the calls that it keeps and
 -- that are queued, its work, its last flush, how many of the first kept calls are in doubt, the blocks that it fetched
@@ -56,10 +56,6 @@ at_step c step = record c { task = with_step step c.task }
 abbrev pub in_doubt : SeenClient → Option ℕ
 in_doubt c = if c.doubted == 0 then None else Some c.batch
 
--- how many blocks a client's cache has room for
-abbrev pub most_cached : ℕ
-most_cached = 64
-
 -- a client that keeps nothing, and whose log begins at stripe 0
 abbrev pub first_client : ℕ → ℕ → ℕ → ℕ → LogId → SeenClient
 first_client servers fragment block client log = record {
@@ -91,28 +87,12 @@ abbrev pub settled : SeenClient → Bool → SeenClient
 settled c true = record (unready (leaves c c.doubted)) { doubted = 0 }
 settled c false = record (unready c) { doubted = 0 }
 
--- the log is that of the client, and has the sizes of the system
-pub record IsLogOf (n f b : ℕ) (id : LogId) (log : SeenLog) : Type 0 where
-  pub log_is : log.log ≡ id
-  pub servers : log.servers ≡ n
-  pub fragment : log.fragment ≡ f
-  pub room : log.room ≡ room_of n f
-  pub block : log.block ≡ b
-
--- What is true of each client: its log has the sizes of the system, and goes on behind its last flush; it keeps
--- updates, those in doubt among them; its work is for them, and while a batch is in doubt it is no further than at a
--- lookup.
-pub record IsKept (n f b : ℕ) (id : LogId) (log : SeenLog) (kept queue : List Numbered) (task : Option Task) (flushed : Option Flushed) (doubted : ℕ) : Type 0 where
-  pub log_is : IsLogOf n f b id log
-  pub behind : IfSome flushed (IsBehind log)
+-- What is true of each client: it keeps updates, those in doubt among them; its work is for them, and while a batch is in
+-- doubt it is no further than at a lookup.
+pub record IsKept (n f b : ℕ) (log : SeenLog) (kept queue : List Numbered) (task : Option Task) (doubted : ℕ) : Type 0 where
   pub updates : All (λ call. is_update call.call ≡ true) kept
   pub in_doubt : doubted ≤ length kept
   pub work : TaskFits n f b log kept queue doubted task
-
--- some bytes are those that the log gave of its stripe
-pub record HasGiven (log : SeenLog) : Type 0 where
-  pub given : List ℕ
-  pub are : AreGiven log given
 
 -- there is room for a line of each kept call and one more
 pub record HasRoom (kept : ℕ) (spare : Option (List Outcome)) (room : Option ℕ) : Type 0 where

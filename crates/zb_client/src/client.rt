@@ -6,36 +6,27 @@ ghost use Rattle.zb_work.specs.declared.work.Aim.TheVariants.{Finish};
 ghost use Rattle.zb_work.specs.Steps.{new_task, next_task, aim_of};
 ghost use Rattle.zb_basis.specs.declared.calls.Numbered.{Numbered};
 ghost use Rattle.zb_work.specs.Fitting.{TaskFits, AimFits, IsBehind};
+ghost use Rattle.zb_steps.specs.Desks.{SeenDesk};
 ghost use Rattle.zb_client.specs.Seen.{SeenClient, IsLogOf, HasGiven, kind_of, unready, in_doubt, first_client, leaves, settled};
 
 use std::alloc::Global;
 use std::collections::VecDeque;
 use std::marker::Model;
 use zb_basis::{Numbered, run_length};
-use zb_cache::BlockCache;
-use zb_log::LogBuf;
+use zb_steps::{Desk, run_of};
 use zb_types::{Call, Geometry, Kind, LogId, Mem, Outcome};
-use zb_work::{Aim, Flushed, Task, aim_of, put_task};
+use zb_work::{Aim, Task, aim_of, put_task};
 
-/// How many blocks a client's cache has room for.
-const MOST_CACHED: usize = 64;
-
-/// A client without devices: the calls that it keeps and that are queued, its log, and its work.
+/// A client without devices: the calls that it keeps and that are queued, what it works with, and its work.
 #[derive(Drop)]
 pub struct Client {
-    pub(crate) geo: Geometry,
     pub(crate) client: u8,
-    pub(crate) log_id: LogId,
-    pub(crate) log: LogBuf,
-    // The number of its next batch.
-    pub(crate) batch: u64,
+    pub(crate) desk: Desk,
     pub(crate) kept: Vec<Numbered>,
     pub(crate) queue: VecDeque<Numbered>,
     pub(crate) task: Option<Task>,
-    pub(crate) flushed: Option<Flushed>,
     // How many of the kept calls are in doubt.
     pub(crate) doubted: usize,
-    pub(crate) cache: BlockCache,
     // The memory for the lines of the step that stands.
     pub(crate) spare: Option<Vec<Outcome>>,
 }
@@ -44,30 +35,28 @@ impl Model for Client {
     ghost use Rattle.std.specs.Prelude.{◌≤◌, is_some, length, option_map, vec_capacity};
     ghost use Rattle.zb_work.specs.Steps.{aim_of};
     ghost use Rattle.zb_work.specs.Fitting.{AimFits};
-    ghost use Rattle.zb_client.specs.Seen.{SeenClient, IsKept, HasGiven, HasRoom};
+    ghost use Rattle.zb_client.specs.Seen.{SeenClient, IsKept, HasRoom};
 
     ghost Value = { SeenClient };
 
     ghost view = { λ a. record {
-      servers = a.geo.servers;
-      fragment = a.geo.fragment;
-      block = a.geo.block;
+      servers = a.desk.servers;
+      fragment = a.desk.fragment;
+      block = a.desk.block;
       client = a.client;
-      log = a.log;
-      batch = a.batch;
+      log = a.desk.log;
+      batch = a.desk.batch;
       kept = a.kept.items;
       queue = a.queue.items;
       task = a.task;
-      flushed = a.flushed;
+      flushed = a.desk.flushed;
       doubted = a.doubted;
-      cache = a.cache;
+      cache = a.desk.cache;
       is_ready = is_some a.spare;
     } };
 
-    ghost invariant = { λ a. IsKept a.geo.servers a.geo.fragment a.geo.block a.log_id a.log a.kept.items a.queue.items a.task a.flushed a.doubted
-        × HasGiven a.log
+    ghost invariant = { λ a. IsKept a.desk.servers a.desk.fragment a.desk.block a.desk.log a.kept.items a.queue.items a.task a.doubted
         × HasRoom (length a.kept.items) (option_map (λ v. v.items) a.spare) (option_map (λ v. vec_capacity v) a.spare)
-        × (1 ≤ a.batch)
         × AimFits a.kept.items a.queue.items (aim_of a.task) };
 }
 
@@ -80,15 +69,15 @@ fn drop_first(kept: &mut Vec<Numbered>, n: usize)
 }
 
 /// So many of the kept calls leave, and the next batch or the read is at work.
-pub(crate) fn leave(kept: &mut Vec<Numbered>, batch: &mut u64, task: &mut Option<Task>, n: usize)
+pub(crate) fn leave(kept: &mut Vec<Numbered>, desk: &mut Desk, task: &mut Option<Task>, n: usize)
     requires { n ≤ length kept.old.items }
     ensures kept { kept.new.items ≡ drop n kept.old.items }
-    ensures batch { batch.new ≡ min (batch.old + 1) (2 ^ 64 - 1) }
+    ensures batch { desk.new ≡ record desk.old { batch = min (desk.old.batch + 1) (2 ^ 64 - 1) } }
     ensures task { task.new ≡ next_task (aim_of task.old) (nat_lt 0 (length (drop n kept.old.items))) }
     ensures aim { (queue : List Numbered) → AimFits kept.old.items queue (aim_of task.old) → AimFits kept.new.items queue (aim_of task.new) }
 {
     drop_first(kept, n);
-    *batch = batch.saturating_add(1);
+    desk.count();
     let next = Task::behind(aim_of(task), !kept.is_empty());
     put_task(task, next);
 }
@@ -99,17 +88,12 @@ impl Client {
         ensures { IfOk result (λ made. made ≡ first_client geo.now.servers geo.now.fragment geo.now.block client log) }
     {
         Ok(Client {
-            geo: *geo,
             client,
-            log_id: log,
-            log: LogBuf::new(alloc, geo, log)?,
-            batch: 1,
+            desk: Desk::new(alloc, geo, log)?,
             kept: Vec::new(alloc),
             queue: VecDeque::new(alloc),
             task: None,
-            flushed: None,
             doubted: 0,
-            cache: BlockCache::new(alloc, MOST_CACHED)?,
             spare: None,
         })
     }
@@ -129,8 +113,7 @@ impl Client {
         ensures work { TaskFits self.now.servers self.now.fragment self.now.block self.now.log self.now.kept self.now.queue self.now.doubted self.now.task }
         ensures aim { AimFits self.now.kept self.now.queue (aim_of self.now.task) }
     {
-        // Names a field, so that what holds of the client's fields is known here.
-        let _ = &self.kept;
+        self.desk.knows();
     }
 
     /// The kind of the next step, `Idle` where there is none.
@@ -182,7 +165,7 @@ impl Client {
         if self.doubted == 0 {
             None
         } else {
-            Some(self.batch)
+            Some(self.desk.batch())
         }
     }
 
@@ -191,7 +174,7 @@ impl Client {
         ensures { self.new ≡ record (unready (leaves self.old self.old.doubted)) { doubted = 0 } }
     {
         let n = self.doubted;
-        leave(&mut self.kept, &mut self.batch, &mut self.task, n);
+        leave(&mut self.kept, &mut self.desk, &mut self.task, n);
         self.doubted = 0;
         self.spare = None;
     }
@@ -235,8 +218,7 @@ impl Client {
         ensures run { result.now ≡ run_of self.now.kept }
         ensures updates { All (λ call. is_update call.call ≡ true) result.now }
     {
-        let n = run_length(&self.kept);
-        &self.kept[..n]
+        run_of(&self.kept)
     }
 
     /// Begins to work, with a lookup.

@@ -86,7 +86,7 @@ impl Client {
         let n = replies.len();
         let lines = self.spare.take().unwrap();
         let told = told_replies(lines, self.client, &self.kept, replies);
-        leave(&mut self.kept, &mut self.batch, &mut self.task, n);
+        leave(&mut self.kept, &mut self.desk, &mut self.task, n);
         told
     }
 

@@ -44,12 +44,13 @@ impl Client {
         ensures fits { result ≡ true → FoundFor self.now.block (room_of self.now.servers self.now.fragment) self.now.kept self.now.queue found.now }
         ensures differs { result ≡ false → ¬ (FoundFor self.now.block (room_of self.now.servers self.now.fragment) self.now.kept self.now.queue found.now) }
     {
-        let room = (self.geo.servers - 1) * self.geo.fragment;
+        let geo = self.desk.geo();
+        let room = (geo.servers - 1) * geo.fragment;
         if !self.kept.is_empty() {
-            return fits_batch(self.geo.block, room, self.run(), found);
+            return fits_batch(geo.block, room, self.run(), found);
         }
         match self.queue.front() {
-            Some(read) => fits_read(self.geo.block, room, &read.call, found),
+            Some(read) => fits_read(geo.block, room, &read.call, found),
             None => false,
         }
     }

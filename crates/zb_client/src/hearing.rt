@@ -1,43 +1,67 @@
 ghost use Rattle.std.specs.Prelude.{◌≡◌, ◌<◌, ◌≤◌, IfOk, IsErrOf, OnErr, length, true, false, [], Option};
 ghost use Rattle.zb_log.specs.declared.placed.LogFault.TheVariants.{Worn, NoMemory as OutOfMemory};
-ghost use Rattle.zb_basis.specs.Looking.{room_of};
-ghost use Rattle.zb_work.specs.Steps.{step_of};
-ghost use Rattle.zb_work.specs.Fitting.{FoundFor, wanted_for};
-ghost use Rattle.zb_client.specs.Telling.{Heard};
+ghost use Rattle.zb_work.specs.Fitting.{StepFits};
+ghost use Rattle.zb_client.specs.Seen.{at_step};
+ghost use Rattle.zb_client.specs.Telling.{Heard, silent, looks_anew};
 ghost use Rattle.zb_client.specs.Answering.{Answers, MayWantMemory, brings_bytes};
-ghost use Rattle.zb_client.specs.Hearing.{Hears, GoesOn, Wears, CannotGo, asks, looked_up};
+ghost use Rattle.zb_client.specs.Hearing.{Hears, Wears};
+ghost use Rattle.zb_client.specs.Working.{MayGoOn, goes_so};
 
 use crate::client::Client;
 use crate::steps::{Answer, Told};
 use std::alloc::Global;
-use zb_basis::{Basis, FoundList};
+use zb_basis::FoundList;
 use zb_log::LogFault;
-use zb_types::{Cause, Kind, Response, Said};
-use zb_work::{ask_for_each, slots_of};
+use zb_steps::Next;
+use zb_types::{Cause, Response, Said};
+use zb_work::{Step, look, put_step, take_step};
 
 impl Client {
+    /// The same work goes on at this step.
+    fn stand_at(&mut self, step: Step) -> Told
+        requires { StepFits self.old.servers self.old.fragment self.old.block self.old.log self.old.kept self.old.queue self.old.doubted step }
+        ensures { silent (at_step self.old step) ≡ record { client = self.new; told = result } }
+    {
+        put_step(&mut self.task, step);
+        self.spare = None;
+        Told::Nothing
+    }
+
+    /// Looks up anew.
+    pub(crate) fn look_anew(&mut self) -> Told
+        ensures { looks_anew self.old ≡ record { client = self.new; told = result } }
+    {
+        look(&mut self.task);
+        self.spare = None;
+        Told::Nothing
+    }
+
+    /// The work goes on so.
+    fn go_on(&mut self, next: Next) -> Told
+        requires ready { self.old.is_ready ≡ true }
+        requires may { MayGoOn self.old next }
+        ensures { goes_so self.old next ≡ record { client = self.new; told = result } }
+    {
+        match next {
+            Next::Step(step) => self.stand_at(step),
+            Next::Reply(reply) => self.answer_read(Said::Reply(reply)),
+            Next::Stuck(cause) => self.give_up(cause),
+        }
+    }
+
     /// Takes what a lookup found. After an error the client is as before.
     fn hear_found(&mut self, alloc: Global, found: FoundList) -> Result<Told, LogFault>
         requires ready { self.old.is_ready ≡ true }
-        requires found { FoundFor self.old.block (room_of self.old.servers self.old.fragment) self.old.kept self.old.queue found }
-        requires settled { self.old.doubted ≡ 0 }
-        ensures ok { IfOk result (λ told. GoesOn (asks self.old (wanted_for self.old.block self.old.kept self.old.queue found)) (looked_up self.old found) (record { client = self.new; told = told })) }
+        requires answers { Answers self.old (Answer.Found found) }
+        ensures ok { IfOk result (λ told. Hears self.old (Answer.Found found) (record { client = self.new; told = told })) }
         ensures err { OnErr result (self.new ≡ self.old) }
-        ensures worn { IsErrOf result Worn → CannotGo self.old (looked_up self.old found) }
+        ensures worn { IsErrOf result Worn → Wears self.old (Answer.Found found) }
     {
-        let wanted = self.wanted(alloc, found.slice())?;
-        let fetched = slots_of(alloc, &self.cache, wanted.slice())?;
-        let basis = Basis {
-            found,
-            wanted,
-            fetched,
-        };
-        let next = self.next(alloc, &basis, 0)?;
-        ask_for_each(&mut self.cache, basis.wanted.slice());
-        Ok(self.go_on(basis, next))
+        let next = self.desk.found(alloc, &self.kept, &self.queue, found)?;
+        Ok(self.go_on(next))
     }
 
-    /// Takes the response of a server. After an error the client is as before.
+    /// Takes the response of a server to the request that stands. After an error the client is as before.
     fn hear_server(
         &mut self,
         alloc: Global,
@@ -51,10 +75,17 @@ impl Client {
         ensures cause { OnErr result (brings_bytes response ≡ true) }
         ensures worn { IsErrOf result Worn → Wears self.old (Answer.Server response serving) }
     {
-        if self.kind() == Kind::Fetch {
-            self.hear_fetch(alloc, &response, serving)
-        } else {
-            Ok(self.hear_store(&response))
+        let step = take_step(&mut self.task);
+        let served = self
+            .desk
+            .served(alloc, &self.kept, &self.queue, step, &response, serving);
+        drop(response);
+        match served {
+            Ok(next) => Ok(self.go_on(next)),
+            Err((fault, step)) => {
+                put_step(&mut self.task, step);
+                Err(fault)
+            }
         }
     }
 

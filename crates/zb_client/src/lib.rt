@@ -5,13 +5,11 @@
 mod calling;
 mod client;
 mod committing;
-mod fetching;
 mod fitting;
-mod going;
 mod hearing;
 mod lines;
 mod steps;
-mod storing;
+mod unmarked;
 mod wishing;
 
 pub use client::Client;

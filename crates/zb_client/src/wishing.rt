@@ -1,4 +1,4 @@
-ghost use Rattle.std.specs.Prelude.{◌≡◌, ◌⊎◌, ◌<◌, IfOk, map, true, Option, option_map, slice_get};
+ghost use Rattle.std.specs.Prelude.{◌≡◌, ◌<◌, IfOk, map, true, Option, option_map, slice_get};
 ghost use Rattle.zb_types.specs.declared.ids.ServerId.{ServerId};
 ghost use Rattle.zb_types.specs.declared.requests.Request.{Request};
 ghost use Rattle.zb_basis.specs.Looking.{ask_of, asks_of};
@@ -57,13 +57,14 @@ impl Client {
     fn lookup(&self, alloc: Global, tries: u32) -> Mem<Lookup>
         ensures { IfOk result (λ lookup. lookup ≡ lookup_of self.now tries self.now.kept) }
     {
+        let block = self.desk.geo().block;
         if !self.kept.is_empty() {
-            let asks = asks_of(alloc, self.geo.block, self.run())?;
+            let asks = asks_of(alloc, block, self.run())?;
             let hold = tries >= MOST_TRIES;
             return Ok(Lookup::Files { hold, asks });
         }
         match self.queue.front() {
-            Some(read) => read_lookup(alloc, self.geo.block, &read.call),
+            Some(read) => read_lookup(alloc, block, &read.call),
             None => Ok(Lookup::Files {
                 hold: false,
                 asks: AskList::new(alloc)?,
@@ -97,11 +98,11 @@ impl Client {
     }
 
     /// What the next step wants: nothing, a move inside, a request to a server, or a turn of the file manager. It is
-    /// nothing only where there is no work and no call is queued, or while a batch is stored.
+    /// nothing only where there is no work and no call is queued.
     pub fn wish(&self, alloc: Global) -> Mem<Wish>
         requires { self.now.is_ready ≡ true }
         ensures exact { IfOk result (λ wish. wish ≡ wish_of self.now) }
-        ensures idle { wish_of self.now ≡ Wish.Idle → (kind_of self.now ≡ Kind.Idle) ⊎ (kind_of self.now ≡ Kind.Store) }
+        ensures idle { wish_of self.now ≡ Wish.Idle → kind_of self.now ≡ Kind.Idle }
     {
         match &self.task {
             Some(task) => self.step_wish(alloc, task.tries, &task.step),

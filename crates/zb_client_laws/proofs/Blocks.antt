@@ -1,14 +1,11 @@
 -- The old blocks that a batch or a read wants: those that are there.
-use Rattle.std.proofs.Common.{◌≡◌, ℕ, zero, suc, ◌+◌, ◌<◌, ◌≤◌, Bool, true, false, eqb, List, [], ◌∷◌, length, Option, Some, None, refl, sym, ap, ◌∙◌, subst}
-use Rattle.std.specs.Prelude.{◌==◌, if◌then◌else◌, All, Any, map}
-use Rattle.std.specs.List.{AllByRecursion, AllZip}
-use Rattle.std.proofs.lemmas.Bool.{eqb-true}
+use Rattle.std.proofs.Common.{◌≡◌, ℕ, zero, suc, ◌+◌, Bool, true, false, List, [], ◌∷◌, length, Option, Some, None, refl, sym, ap, ◌∙◌, subst}
+use Rattle.std.specs.Prelude.{◌==◌, if◌then◌else◌}
+use Rattle.std.specs.List.{AllByRecursion}
 use Rattle.zb_types.specs.declared.ids.Ptr.{Ptr}
-use Rattle.zb_types.specs.declared.tables.Found.{Found}
-use Rattle.zb_types.specs.declared.tables.HeldUse.{HeldUse}
 use Rattle.zb_cache.specs.Entries.{SeenCache, bytes_under}
 use Rattle.zb_basis.specs.declared.basis.Fetched.{Fetched}
-use Rattle.zb_work.specs.Blocks.{AreSlots, IsSlot, filled, is_missing, next_missing, or_none, shifted, slot_of, slots_of, there}
+use Rattle.zb_work.specs.Blocks.{AreSlots, filled, is_missing, next_missing, or_none, shifted, slot_of, slots_of, there}
 use Rattle.zb_forming_laws.specs.Resting.{pairs_of}
 use Rattle.zb_client_laws.proofs.Caching.{found_each}
 
@@ -39,17 +36,17 @@ module _ (Q : Ptr → Type 0) where
   missing_by w b bs at p true found e f is own rest h =
       let g : Some (0, b.ptr) ≡ Some (at, p) = rw e at h in
       subst Q (sym is ∙ ap (ptr_or p) g) own where
-    ptr_or : Ptr → Option (ℕ × Ptr) → Ptr
-    ptr_or p None = p
-    ptr_or p (Some m) = m.1
+        ptr_or : Ptr → Option (ℕ × Ptr) → Ptr
+        ptr_or p None = p
+        ptr_or p (Some m) = m.1
   missing_by w b bs at p false None e f is own rest h = let g : shifted 1 (next_missing bs) ≡ Some (at, p) = rw e at h in absurd (cc (rw f at g))
   missing_by w b bs at p false (Some m) e f is own rest h =
       let g : shifted 1 (next_missing bs) ≡ Some (at, p) = rw e at h in
       let g2 : Some (m.0 + 1, m.1) ≡ Some (at, p) = rw f at g in
       rest m.0 (f ∙ ap (λ (q : Ptr). Some (m.0, q)) (ap (ptr_or p) g2)) where
-    ptr_or : Ptr → Option (ℕ × Ptr) → Ptr
-    ptr_or p None = p
-    ptr_or p (Some m) = m.1
+        ptr_or : Ptr → Option (ℕ × Ptr) → Ptr
+        ptr_or p None = p
+        ptr_or p (Some m) = m.1
 
   pub missing_each : (room : ℕ) (ws : List Ptr) (bs : List Fetched) (at : ℕ) (p : Ptr) → AreSlots room ws bs → AllByRecursion Q ws → next_missing bs ≡ Some (at, p) → Q p
   missing_each room ws [] at p s all h = absurd (cc h)

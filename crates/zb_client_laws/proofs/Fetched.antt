@@ -1,8 +1,7 @@
 -- What a response makes of a client that fetches.
-use Rattle.std.proofs.Common.{◌≡◌, ℕ, ◌+◌, ◌-◌, ◌*◌, ◌<◌, ◌≤◌, Bool, true, false, eqb, List, [], ◌∷◌, ◌++◌, Option, Some, None, refl, sym, ap, ◌∙◌, subst, inl, inr, arith}
-use Rattle.std.specs.Prelude.{◌⊎◌, ◌&&◌, ◌==◌, if◌then◌else◌, length, nat_lt}
+use Rattle.std.proofs.Common.{◌≡◌, ℕ, Bool, true, false, eqb, List, [], ◌∷◌, Option, Some, None, refl, sym, ap, subst, inl, inr}
+use Rattle.std.specs.Prelude.{◌⊎◌, if◌then◌else◌, length, nat_lt}
 use Rattle.std.specs.Bool.{MatchBool}
-use Rattle.std.specs.List.{AllByRecursion}
 use Rattle.std.proofs.lemmas.Bool.{and_parts, eqb-true}
 use Rattle.zb_types.specs.declared.ids.Ptr.{Ptr}
 use Rattle.zb_types.specs.declared.requests.Response.{Response}
@@ -13,28 +12,25 @@ use Rattle.zb_stripe.specs.declared.progress.Phase.{Phase}
 use Rattle.zb_stripe.specs.declared.progress.Phase.TheVariants.{Direct}
 use Rattle.zb_stripe.specs.declared.read_plan.Got.{Got}
 use Rattle.zb_stripe.specs.declared.read_plan.Got.TheVariants as got
-use Rattle.zb_stripe.specs.Reading.{Answers, Reading, advanced, asked, end_of, fed, fed_in, pos_of}
+use Rattle.zb_stripe.specs.Reading.{Answers, Reading, advanced, asked, end_of, fed_in, pos_of}
 use Rattle.zb_stripe_laws.specs.ReadAtWork.{AnswersFrom}
 use Rattle.zb_tables.specs.Tables.{LiesIn, bytes_at}
-use Rattle.zb_sound.specs.OldStripes.{CopiesAreCurrent}
 use Rattle.zb_basis.specs.declared.basis.Basis.{Basis}
 use Rattle.zb_basis.specs.declared.calls.Numbered.{Numbered}
 use Rattle.zb_basis.specs.Looking.{room_of}
 use Rattle.zb_basis.specs.Runs.{run_of}
 use Rattle.zb_forming_laws.specs.Resting.{AreCurrent}
-use Rattle.zb_work.specs.Blocks.{AreSlots, filled, there}
 use Rattle.zb_work.proofs.Missing.{slots_filled}
 use Rattle.zb_work.specs.declared.work.Step.{Step}
 use Rattle.zb_work.specs.declared.work.Step.TheVariants as step
 use Rattle.zb_work.specs.declared.work.Task.{Task}
 use Rattle.zb_work.specs.Fitting.{IsFetching, Stands, StepFits, wanted_for}
 use Rattle.zb_work.specs.Steps.{step_of, with_step}
-use Rattle.zb_client.specs.declared.steps.Told.TheVariants as says
 use Rattle.zb_client.specs.Seen.{SeenClient, at_step}
 use Rattle.zb_client.specs.Hearing.{GoesOn, HearsFetch, HearsGot, caches, is_whole, with_block}
 use Rattle.zb_client.specs.Telling.{Heard, looks_anew, silent}
 use Rattle.zb_client_laws.specs.Around.{Around, IsAround}
-use Rattle.zb_client_laws.specs.Current.{BatchIsCurrent, FirstIsCurrent, IsReading, ReadIsCurrent, RestsOnHeld, ShowsFound, WorkIsCurrent}
+use Rattle.zb_client_laws.specs.Current.{FirstIsCurrent, IsReading, RestsOnHeld, ShowsFound, WorkIsCurrent}
 use Rattle.zb_client_laws.specs.Effects.{TellsRight}
 use Rattle.zb_client_laws.specs.Known.{IsKnown}
 use Rattle.zb_client_laws.specs.Logging.{HasPhase, RestsAt}
@@ -74,9 +70,21 @@ module _ (slots : ℕ) (w : Around) (a : IsAround slots w) (seen : Tree) (c : Se
 
   rest : AtRest w c
   rest = record {
-    sizes = s.sizes; settled = s.settled; short = s.short; short_queue = s.short_queue; numbered = known.numbered; log_is = known.log;
-    last = s.log.last; generation = s.log.generation; at = s.log.at; front = s.log.front; phase = s.log.phase;
-    current = s.log.current; flush = s.log.flush; rests = rests; cached = s.cached;
+    sizes = s.sizes;
+    settled = s.settled;
+    short = s.short;
+    short_queue = s.short_queue;
+    numbered = known.numbered;
+    log_is = known.log;
+    last = s.log.last;
+    generation = s.log.generation;
+    at = s.log.at;
+    front = s.log.front;
+    phase = s.log.phase;
+    current = s.log.current;
+    flush = s.log.flush;
+    rests = rests;
+    cached = s.cached;
   }
 
   -- ---- what the work rests on
@@ -144,10 +152,19 @@ module _ (slots : ℕ) (w : Around) (a : IsAround slots w) (seen : Tree) (c : Se
     rest_cached : AtRest w Cached
     rest_cached = record {
       sizes = record { servers = s.sizes.servers; fragment = s.sizes.fragment; block = s.sizes.block };
-      settled = s.settled; short = s.short; short_queue = s.short_queue; numbered = known.numbered;
+      settled = s.settled;
+      short = s.short;
+      short_queue = s.short_queue;
+      numbered = known.numbered;
       log_is = record { log_is = known.log.log_is; servers = known.log.servers; fragment = known.log.fragment; room = known.log.room; block = known.log.block };
-      last = s.log.last; generation = s.log.generation; at = s.log.at; front = s.log.front; phase = s.log.phase;
-      current = s.log.current; flush = s.log.flush; rests = rests;
+      last = s.log.last;
+      generation = s.log.generation;
+      at = s.log.at;
+      front = s.log.front;
+      phase = s.log.phase;
+      current = s.log.current;
+      flush = s.log.flush;
+      rests = rests;
       cached = put_each P c.cache.room ptr bytes c.cache.entries (are, lies) s.cached;
     }
 
@@ -158,12 +175,12 @@ module _ (slots : ℕ) (w : Around) (a : IsAround slots w) (seen : Tree) (c : Se
     whole_by heard true e on =
         let long = eqb-true (length bytes) ptr.len (and_parts (eqb (length bytes) ptr.len) (nat_lt 0 (length bytes)) e).0 in
         let right = goes_on slots w a seen Cached rest_cached of.task of.is (with_block basis at ptr bytes)
-            (work_as (with_block basis at ptr bytes) refl held_more c.kept c.queue current.0) held_more
-            (slots_filled (room_of c.servers c.fragment) (wanted_for c.block c.kept c.queue basis.found) basis.fetched at ptr bytes fits.0.rests.slots fits.0.missing long) heard on in
+        (work_as (with_block basis at ptr bytes) refl held_more c.kept c.queue current.0) held_more
+        (slots_filled (room_of c.servers c.fragment) (wanted_for c.block c.kept c.queue basis.found) basis.fetched at ptr bytes fits.0.rests.slots fits.0.missing long) heard on in
         (right.0, as_before right.1) where
-      as_before : TellsRight seen Cached heard → TellsRight seen c heard
-      as_before (inl none) = inl none
-      as_before (inr (d, r)) = inr (d, record { reply = r.reply; right = r.right; is = r.is })
+          as_before : TellsRight seen Cached heard → TellsRight seen c heard
+          as_before (inl none) = inl none
+          as_before (inr (d, r)) = inr (d, record { reply = r.reply; right = r.right; is = r.is })
     whole_by heard false e on = silent_right (at_step c step.Lookup) heard on anew
 
   -- ---- by what was told

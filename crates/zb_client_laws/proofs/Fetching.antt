@@ -1,64 +1,36 @@
 -- A fetch that is answered from what the servers have.
-use Rattle.std.proofs.Common.{◌≡◌, ℕ, ◌+◌, ◌-◌, ◌*◌, ◌<◌, ◌≤◌, Bool, true, false, List, [], ◌∷◌, ◌++◌, Option, Some, None, refl, sym, ap, ◌∙◌, subst, inl, inr, arith}
-use Rattle.std.specs.Prelude.{◌⊎◌, ◌&&◌, ◌==◌, if◌then◌else◌, drop, is_some, length, nat_le, nat_lt, take}
-use Rattle.std.specs.Bool.{MatchBool}
-use Rattle.std.specs.List.{AllByRecursion}
-use Rattle.std.proofs.lemmas.Bool.{and_parts, and_right, eqb-true}
+use Rattle.std.proofs.Common.{◌≡◌, ℕ, ◌+◌, ◌-◌, ◌<◌, ◌≤◌, Bool, true, false, List, ◌++◌, Option, Some, None, refl, sym, ap, ◌∙◌, subst, inl, inr, arith}
+use Rattle.std.specs.Prelude.{if◌then◌else◌, drop, is_some, length, nat_le, nat_lt, take}
+use Rattle.std.proofs.lemmas.Bool.{and_right}
 use Rattle.zb_types.specs.declared.ids.Ptr.{Ptr}
 use Rattle.zb_types.specs.declared.ids.ServerId.{ServerId}
 use Rattle.zb_types.specs.declared.requests.Request.{Request}
 use Rattle.zb_types.specs.declared.requests.Request.TheVariants as ask
 use Rattle.zb_types.specs.declared.requests.Response.{Response}
 use Rattle.zb_types.specs.declared.requests.Response.TheVariants as told
-use Rattle.zb_types.specs.declared.requests.StoreFault.{StoreFault}
 use Rattle.zb_types.specs.declared.requests.StoreFault.TheVariants as fault
-use Rattle.zb_types.specs.Tree.{Tree}
 use Rattle.zb_holding.specs.Carrying.{found}
 use Rattle.zb_holding.specs.Fragments.{Fragment, parity_fragment, share_fragment}
 use Rattle.zb_holding.specs.Holding.{Maps, StripeRemains, away_at, standing, view_of}
 use Rattle.zb_stripe.specs.declared.progress.Phase.{Phase}
-use Rattle.zb_stripe.specs.declared.progress.Phase.TheVariants.{Direct, Lengths, Others}
+use Rattle.zb_stripe.specs.declared.progress.Phase.TheVariants.{Direct, Lengths}
 use Rattle.zb_stripe.specs.declared.read_plan.Got.{Got}
 use Rattle.zb_stripe.specs.declared.read_plan.Got.TheVariants as got
 use Rattle.zb_stripe.specs.Reading.{Answers, IsNotThere, Reading, advanced, asked, blocked_in, end_of, fed, fed_in, gained, gained_by, index_of, is_lost, pos_of}
-use Rattle.zb_stripe_laws.specs.ReadAtWork.{AnswersFrom, AnswersWith, LeadsTo, MayTell, ReadAtWork, StillGrow, WasLooked, as_seen}
+use Rattle.zb_stripe_laws.specs.ReadAtWork.{AnswersFrom, LeadsTo, MayTell, ReadAtWork, StillGrow, WasLooked, as_seen}
 use Rattle.zb_stripe_laws.proofs.Left.{remains_lower}
 use Rattle.zb_stripe_laws.proofs.Ongoing.{goes_on as read_on, stays}
 use Rattle.zb_stripe_laws.proofs.Taking.{may_be_fed}
-use Rattle.zb_tables.specs.Tables.{LiesIn, bytes_at, end_at}
+use Rattle.zb_tables.specs.Tables.{bytes_at}
 use Rattle.zb_sound.specs.LookupsCurrent.{RemainsIn}
-use Rattle.zb_sound.specs.OldStripes.{CopiesAreCurrent}
 use Rattle.zb_sound.specs.Standing.{seen as in_view}
 use Rattle.zb_sound.proofs.Righted.{held_right}
-use Rattle.zb_basis.specs.declared.basis.Basis.{Basis}
-use Rattle.zb_basis.specs.declared.calls.Numbered.{Numbered}
-use Rattle.zb_basis.specs.Looking.{room_of}
-use Rattle.zb_basis.specs.Runs.{run_of}
-use Rattle.zb_work.specs.Blocks.{AreSlots, filled, next_missing, there}
-use Rattle.zb_work.proofs.Missing.{slots_filled}
-use Rattle.zb_work.specs.declared.work.Step.{Step}
-use Rattle.zb_work.specs.declared.work.Step.TheVariants as step
-use Rattle.zb_work.specs.declared.work.Task.{Task}
-use Rattle.zb_work.specs.Fitting.{IsFetching, Stands, StepFits, wanted_for}
-use Rattle.zb_work.specs.Steps.{step_of, with_step}
-use Rattle.zb_client.specs.declared.steps.Told.TheVariants as says
-use Rattle.zb_client.specs.Seen.{SeenClient, at_step}
-use Rattle.zb_client.specs.Hearing.{GoesOn, HearsFetch, HearsGot, caches, is_whole, with_block}
-use Rattle.zb_client.specs.Telling.{Heard, looks_anew, silent}
+use Rattle.zb_work.specs.Fitting.{Stands}
 use Rattle.zb_client_laws.specs.Around.{Around, IsAround, at_rest}
-use Rattle.zb_client_laws.specs.Current.{BatchIsCurrent, FirstIsCurrent, IsReading, RestsOnHeld, WorkIsCurrent}
-use Rattle.zb_client_laws.specs.Effects.{TellsRight}
-use Rattle.zb_client_laws.specs.Known.{IsKnown}
-use Rattle.zb_client_laws.specs.Logging.{HasPhase, RestsAt}
-use Rattle.zb_client_laws.specs.Sound.{ClientIsSound, StepIsCurrent}
-use Rattle.zb_client_laws.proofs.Blocks.{missing_each, there_filled}
-use Rattle.zb_client_laws.proofs.Caching.{put_each}
-use Rattle.zb_client_laws.proofs.Going.{goes_on, rest_sound}
+use Rattle.zb_client_laws.specs.Current.{IsReading}
 use Rattle.zb_client_laws.proofs.Missing.{none_misses}
 use Rattle.zb_client_laws.proofs.Moving.{take_lower, take_within}
-use Rattle.zb_client_laws.proofs.Resting.{AtRest}
 use Rattle.zb_client_laws.proofs.Starts.{IsThere, there as held_there}
-use Rattle.zb_client_laws.proofs.Wanted.{wanted_lie}
 
 -- what a server has is never told as down
 there_is : (o : Option Fragment) (place len : ℕ) → IsNotThere (found o place len) → ⊥
@@ -192,6 +164,6 @@ module _ (slots : ℕ) (w : Around) (a : IsAround slots w) (ptr : Ptr) (plan : R
     pub all_bytes : nat_lt (pos_of Next) (end_of Next) ≡ false → Next.read ≡ bytes_at w.contents ptr
     all_bytes e =
         let is : Next.read ≡ take plan.ptr.len (drop plan.ptr.offset remains.bytes) =
-            subst (λ (b : Bool). LeadsTo w.st.maps rd.seen None None rd.end remains.bytes plan (told.Bytes bytes) Next (if b then got.More else got.Bytes Next.read)) e leads_next in
+        subst (λ (b : Bool). LeadsTo w.st.maps rd.seen None None rd.end remains.bytes plan (told.Bytes bytes) Next (if b then got.More else got.Bytes Next.read)) e leads_next in
         is ∙ ap (λ (p : Ptr). take p.len (drop p.offset remains.bytes)) rd.ptr_is
         ∙ sym (take_within ptr.offset ptr.len rd.end (w.contents ptr.log ptr.stripe) remains.bytes rd.reaches same)

@@ -1,7 +1,6 @@
 -- How the next batch or the read goes on with what is there.
-use Rattle.std.proofs.Common.{◌≡◌, ℕ, zero, suc, ◌+◌, ◌-◌, ◌*◌, ◌<◌, ◌≤◌, Bool, true, false, List, [], ◌∷◌, ◌++◌, Option, Some, None, refl, sym, ap, ◌∙◌, subst, inl, inr, arith}
-use Rattle.std.specs.Prelude.{◌⊎◌, All, IfSome}
-use Rattle.std.specs.List.{AllByRecursion, concat}
+use Rattle.std.proofs.Common.{◌≡◌, ℕ, ◌+◌, ◌-◌, ◌*◌, ◌≤◌, false, List, [], ◌∷◌, Option, Some, None, refl, sym, ap, ◌∙◌, subst, inl, inr, arith}
+use Rattle.std.specs.Prelude.{All, IfSome}
 use Rattle.zb_types.specs.declared.calls.Call.{Call}
 use Rattle.zb_types.specs.declared.calls.Call.TheVariants.{Create, Mkdir, Remove, Rename, Write, Truncate, Sync, Read, List as ListOf, Stat, Find}
 use Rattle.zb_types.specs.declared.calls.Reply.{Reply}
@@ -11,22 +10,19 @@ use Rattle.zb_types.specs.declared.lines.Said.{Said}
 use Rattle.zb_types.specs.declared.lines.Said.TheVariants as said
 use Rattle.zb_types.specs.declared.nodes.Class.TheVariants.{Client}
 use Rattle.zb_types.specs.declared.nodes.Members.{Members}
-use Rattle.zb_types.specs.declared.nodes.State.{State}
 use Rattle.zb_types.specs.declared.requests.Request.{Request}
 use Rattle.zb_types.specs.declared.tables.Found.{Found}
 use Rattle.zb_types.specs.Apply.{reply_to}
-use Rattle.zb_types.specs.Keyed.{look}
 use Rattle.zb_types.specs.Tree.{Tree}
 use Rattle.zb_stripe.specs.declared.flush.Flush.{Flush}
 use Rattle.zb_stripe.specs.Reading.{start}
-use Rattle.zb_stripe.specs.Writing.{StripesRise, plan_requests}
-use Rattle.zb_batch.specs.Spelling.{spelling_of_batch}
+use Rattle.zb_stripe.specs.Writing.{plan_requests}
 use Rattle.zb_log.specs.Logs.{SeenLog}
 use Rattle.zb_log.specs.Sealing.{GoesNext}
-use Rattle.zb_tables.specs.Tables.{Contents, LiesIn}
+use Rattle.zb_tables.specs.Tables.{LiesIn}
 use Rattle.zb_tables.specs.Taking.{stripe_room}
 use Rattle.zb_sound.specs.Delivering.{FlushBegins, allowed}
-use Rattle.zb_sound.specs.LastFlush.{LastFlush, Phase, flushing}
+use Rattle.zb_sound.specs.LastFlush.{LastFlush, flushing}
 use Rattle.zb_sound.specs.LookupsCurrent.{AreFetched}
 use Rattle.zb_sound.specs.OldStripes.{CopiesAreCurrent}
 use Rattle.zb_sound.proofs.Placed.{last_begins}
@@ -35,7 +31,7 @@ use Rattle.zb_basis.specs.declared.basis.Formed.{Formed}
 use Rattle.zb_basis.specs.declared.calls.Numbered.{Numbered}
 use Rattle.zb_basis.specs.Delivering.{IsAbout, stripe_of}
 use Rattle.zb_basis.specs.Forming.{IsFormed, log_from, readers_out, writers_out}
-use Rattle.zb_basis.specs.Looking.{ask_of, room_of}
+use Rattle.zb_basis.specs.Looking.{room_of}
 use Rattle.zb_basis.specs.Reading.{IsReadReply}
 use Rattle.zb_basis.specs.Runs.{run_of}
 use Rattle.zb_forming_laws.specs.Flushing.{flush_with}
@@ -47,15 +43,14 @@ use Rattle.zb_work.specs.declared.work.Step.TheVariants as step
 use Rattle.zb_work.specs.declared.work.Task.{Task}
 use Rattle.zb_work.specs.Fitting.{wanted_for}
 use Rattle.zb_work.specs.Steps.{first_members, step_of, with_step}
-use Rattle.zb_client.specs.declared.steps.Told.TheVariants as told
 use Rattle.zb_client.specs.Seen.{SeenClient, at_step}
-use Rattle.zb_client.specs.Hearing.{Forms, GoesOn, GoesOnAt, HasAll, Replies, RepliesFirst, behind as behind_flush, log_for}
-use Rattle.zb_client.specs.Telling.{Heard, answers_first, answers_read, resting, silent}
+use Rattle.zb_client.specs.Hearing.{GoesOn, GoesOnAt, HasAll, RepliesFirst, behind as behind_flush, log_for}
+use Rattle.zb_client.specs.Telling.{Heard, answers_first, silent}
 use Rattle.zb_client.specs.Wishing.{head_of}
 use Rattle.zb_client_laws.specs.Around.{Around, IsAround}
-use Rattle.zb_client_laws.specs.Current.{BatchIsCurrent, FirstIsCurrent, IsReading, ReadIsCurrent, RestsOnHeld, ShowsFound, WorkIsCurrent}
-use Rattle.zb_client_laws.specs.Effects.{AnswersRead, IsReplyIn, TellsRight}
-use Rattle.zb_client_laws.specs.Logging.{HasPhase, IsDelivering, LogIsAtWork, RestsAt, WasFormed, delivers}
+use Rattle.zb_client_laws.specs.Current.{BatchIsCurrent, FirstIsCurrent, IsReading, RestsOnHeld, ShowsFound, WorkIsCurrent}
+use Rattle.zb_client_laws.specs.Effects.{IsReplyIn, TellsRight}
+use Rattle.zb_client_laws.specs.Logging.{HasPhase, IsDelivering, RestsAt, WasFormed, delivers}
 use Rattle.zb_client_laws.specs.Sound.{ClientIsSound, StepIsCurrent}
 use Rattle.zb_client_laws.proofs.Blocks.{all_there, missing_each}
 use Rattle.zb_client_laws.proofs.Resting.{AtRest, Goes, goes}
@@ -107,12 +102,12 @@ module _ (slots : ℕ) (w : Around) (a : IsAround slots w) (seen : Tree) (c : Se
       let st = step.Fetch basis at ptr plan in
       let d : SeenClient = record c { queue = c.queue; task = with_step st c.task; is_ready = false } in
       let lies = missing_each (LiesIn w.tables.held) (room_of c.servers c.fragment) (wanted_for c.block c.kept c.queue basis.found) basis.fetched at ptr slot
-          (wanted_lie w.tables.held c.block c.kept c.queue basis.found held.lie) missing in
+      (wanted_lie w.tables.held c.block c.kept c.queue basis.found held.lie) missing in
       let begins = reading_begins slots w a ptr lies in
       let reads =
-          subst (λ (o : Option ServerId). IsReading w.z w.contents w.st.maps w.tables.held ptr (start c.servers c.fragment ptr o)) (sym readers_none)
-          (subst (λ (f : ℕ). IsReading w.z w.contents w.st.maps w.tables.held ptr (start c.servers f ptr None)) (sym r.sizes.fragment)
-          (subst (λ (n : ℕ). IsReading w.z w.contents w.st.maps w.tables.held ptr (start n w.z.fragment ptr None)) (sym r.sizes.servers) begins)) in
+      subst (λ (o : Option ServerId). IsReading w.z w.contents w.st.maps w.tables.held ptr (start c.servers c.fragment ptr o)) (sym readers_none)
+      (subst (λ (f : ℕ). IsReading w.z w.contents w.st.maps w.tables.held ptr (start c.servers f ptr None)) (sym r.sizes.fragment)
+      (subst (λ (n : ℕ). IsReading w.z w.contents w.st.maps w.tables.held ptr (start n w.z.fragment ptr None)) (sym r.sizes.servers) begins)) in
       rest_sound w seen c r c.queue (with_step st c.task) r.short_queue r.rests
       (subst (λ (x : Step). HasPhase d x r.generation r.at r.front r.phase) (sym (step_is st)) r.rests)
       (subst (λ (x : Step). StepIsCurrent w seen d x) (sym (step_is st)) (current, reads))
@@ -235,17 +230,19 @@ module _ (slots : ℕ) (w : Around) (a : IsAround slots w) (seen : Tree) (c : Se
       → RepliesFirst c basis queue heard → Right heard
   first_replied [] heard e none f h = absurd h
   first_replied (read ∷ rest) heard e none f h =
-      let right = shown_reply read.call basis.found h.reply refl none f.shows (subst (λ (b : ℕ). IsReadReply b basis read.call h.reply) r.sizes.block h.right) in
-      (subst (λ (x : Heard). ClientIsSound w seen x.client) (sym h.is) (answered_sound w seen c r c.queue (said.Reply h.reply) r.short_queue),
-      inr (c, record { reply = h.reply; right = subst (λ (q : List Numbered). IsReplyIn seen q h.reply) (sym e) right; is = h.is }))
+      let right = shown_reply read.call basis.found h.reply refl none f.shows (subst (λ (b : ℕ). IsReadReply b basis read.call h.reply) r.sizes.block h.right) in (
+        subst (λ (x : Heard). ClientIsSound w seen x.client) (sym h.is) (answered_sound w seen c r c.queue (said.Reply h.reply) r.short_queue),
+        inr (c, record { reply = h.reply; right = subst (λ (q : List Numbered). IsReplyIn seen q h.reply) (sym e) right; is = h.is }),
+      )
 
   all_had : (kept : List Numbered) (heard : Heard) → c.kept ≡ kept → next_missing basis.fetched ≡ None → WorkIsCurrent w.z.block w.contents w.tables seen kept c.queue basis
       → HasAll c basis kept heard → Right heard
   all_had [] heard e none h all = first_replied c.queue heard refl none h all
   all_had (first ∷ others) heard e none h all =
-      let batch = subst (λ (k : List Numbered). BatchIsCurrent w.z.block w.contents w.tables (run_of k) basis) (sym e) h in
-      (subst (λ (x : Heard). ClientIsSound w seen x.client) (sym all.is) (store_sound all.formed all.is_formed batch none),
-      inl (ap (λ (x : Heard). x.told) all.is))
+      let batch = subst (λ (k : List Numbered). BatchIsCurrent w.z.block w.contents w.tables (run_of k) basis) (sym e) h in (
+        subst (λ (x : Heard). ClientIsSound w seen x.client) (sym all.is) (store_sound all.formed all.is_formed batch none),
+        inl (ap (λ (x : Heard). x.told) all.is),
+      )
 
   goes_at : (missing : Option (ℕ × Ptr)) (heard : Heard) → next_missing basis.fetched ≡ missing → GoesOnAt c basis missing heard → Right heard
   goes_at None heard e on = all_had c.kept heard refl e current on

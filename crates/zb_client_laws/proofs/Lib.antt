@@ -17,3 +17,4 @@ pub mod Tabled
 pub mod Looking
 pub mod Fetching
 pub mod Fetched
+pub mod Joined

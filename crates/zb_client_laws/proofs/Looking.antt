@@ -1,8 +1,8 @@
 -- A lookup that is answered from the tables.
 use Rattle.std.proofs.Common.{◌≡◌, ℕ, ◌+◌, ◌<◌, ◌≤◌, Bool, true, false, List, [], ◌∷◌, Option, Some, None, refl, sym, ap, ◌∙◌, subst, inl, inr, arith}
-use Rattle.std.specs.Prelude.{◌⊎◌, ◌-◌, ◌*◌, ◌/◌, All, if◌then◌else◌, length, min, nat_le}
+use Rattle.std.specs.Prelude.{◌-◌, ◌*◌, ◌/◌, All, if◌then◌else◌, min, nat_le}
 use Rattle.std.proofs.lemmas.Bool.{cond_both}
-use Rattle.std.specs.List.{AllByRecursion, AllZip}
+use Rattle.std.specs.List.{AllZip}
 use Rattle.zb_types.specs.declared.calls.Call.{Call}
 use Rattle.zb_types.specs.declared.calls.Call.TheVariants.{Create, Mkdir, Remove, Rename, Write, Truncate, Sync, Read, List as ListOf, Stat, Find}
 use Rattle.zb_types.specs.declared.calls.Reply.{Reply}
@@ -16,42 +16,40 @@ use Rattle.zb_types.specs.Limits.{most_kept}
 use Rattle.zb_types.proofs.KeyedLists.{look-changed, over}
 use Rattle.zb_types.specs.Tree.{Tree}
 use Rattle.zb_tables.specs.Checkpoint.{AreTables}
-use Rattle.zb_tables.specs.Finding.{found, found_in}
-use Rattle.zb_tables.specs.Tables.{Contents, FileState, LiesIn, Tables, bytes_at, shown_bytes, shown_tree}
+use Rattle.zb_tables.specs.Finding.{found_in}
+use Rattle.zb_tables.specs.Tables.{FileState, LiesIn, bytes_at, shown_bytes}
 use Rattle.zb_tables.specs.Taking.{stripe_room}
 use Rattle.zb_sound.specs.LookupsCurrent.{ShowsFile}
-use Rattle.zb_sound.specs.OldStripes.{CopiesAreCurrent}
 use Rattle.zb_sound.proofs.Looked.{answered_current, answered_shows}
 use Rattle.zb_sound.proofs.Saying.{file_form, said_tables}
-use Rattle.zb_cache.specs.Entries.{SeenCache}
 use Rattle.zb_basis.specs.declared.asks.Ask.{Ask}
 use Rattle.zb_basis.specs.declared.basis.Basis.{Basis}
 use Rattle.zb_basis.specs.declared.calls.Numbered.{Numbered}
 use Rattle.zb_basis.specs.Looking.{AreFoundFor, ask_of, asks_of, room_of}
 use Rattle.zb_basis.specs.Reading.{is_read}
 use Rattle.zb_basis.specs.Runs.{company, is_alone, run_of}
-use Rattle.zb_basis.proofs.Each.{all-of, each-of, each-weaker}
+use Rattle.zb_basis.proofs.Each.{all-of, each-weaker}
 use Rattle.zb_basis.proofs.Found.{batch-within, read-within}
-use Rattle.zb_forming_laws.specs.Resting.{AreCurrent, IsCurrentFor}
-use Rattle.zb_work.specs.Blocks.{AreSlots, slots_of}
+use Rattle.zb_forming_laws.specs.Resting.{IsCurrentFor}
+use Rattle.zb_work.specs.Blocks.{AreSlots}
 use Rattle.zb_work.proofs.Missing.{first_slots}
 use Rattle.zb_work.specs.declared.work.Aim.{Aim}
 use Rattle.zb_work.specs.declared.work.Aim.TheVariants.{Update, Read as ReadAim, Finish}
 use Rattle.zb_work.specs.declared.work.Step.{Step}
 use Rattle.zb_work.specs.declared.work.Step.TheVariants as step
 use Rattle.zb_work.specs.declared.work.Task.{Task}
-use Rattle.zb_work.specs.Fitting.{AimFits, FoundFor, FoundForRead, wanted_for, wanted_for_read}
+use Rattle.zb_work.specs.Fitting.{AimFits, FoundFor, wanted_for}
 use Rattle.zb_work.specs.Steps.{aim_of, first_members, step_of}
 use Rattle.zb_client.specs.declared.steps.Answer.TheVariants as answer
 use Rattle.zb_client.specs.declared.steps.Lookup.{Lookup}
 use Rattle.zb_client.specs.declared.steps.Lookup.TheVariants.{Files, Names}
 use Rattle.zb_client.specs.Seen.{SeenClient}
 use Rattle.zb_client.specs.Hearing.{HearsLookup, asks as asks_cache, looked_up}
-use Rattle.zb_client.specs.Telling.{Heard, answers_first, answers_read}
-use Rattle.zb_client.specs.Wishing.{lookup_of, max_tries, queue_lookup, read_lookup}
+use Rattle.zb_client.specs.Telling.{Heard, answers_read}
+use Rattle.zb_client.specs.Wishing.{lookup_of, queue_lookup, read_lookup}
 use Rattle.zb_client_laws.specs.Around.{Around, IsAround, at_rest}
-use Rattle.zb_client_laws.specs.Current.{BatchIsCurrent, FirstIsCurrent, FoundLies, RestsOnHeld, ShowsFound, WorkIsCurrent}
-use Rattle.zb_client_laws.specs.Effects.{AnswersRead, IsReplyIn, TellsRight, founds}
+use Rattle.zb_client_laws.specs.Current.{RestsOnHeld, ShowsFound, WorkIsCurrent}
+use Rattle.zb_client_laws.specs.Effects.{IsReplyIn, TellsRight, founds}
 use Rattle.zb_client_laws.specs.Known.{IsKnown}
 use Rattle.zb_client_laws.specs.Logging.{HasPhase, RestsAt}
 use Rattle.zb_client_laws.specs.Sound.{ClientIsSound}
@@ -135,6 +133,7 @@ module _ (slots : ℕ) (w : Around) (a : IsAround slots w) where
         let to = min (offset + len) max_file in
         cond_both (nat_le to offset) (record { fid = fid; first = 0; count = 0 }) (record { fid = fid; first = offset / w.z.block; count = (to - 1) / w.z.block - offset / w.z.block + 1 })
         (λ (x : Ask). x.fid ≡ fid) (λ _. refl) (λ _. refl)
+
     by : (o : Option FileState) → look ((ask_of w.z.block (Read fid offset len)).fid).0 w.tables.files ≡ o
         → ShowsFound w.z.block w.contents w.tree (Read fid offset len)
         (found_in w.tables.members (ask_of w.z.block (Read fid offset len)).first (ask_of w.z.block (Read fid offset len)).count o ∷ [])
@@ -142,10 +141,16 @@ module _ (slots : ℕ) (w : Around) (a : IsAround slots w) where
     by (Some file) e =
         let ask = ask_of w.z.block (Read fid offset len) in
         let f = file_form w.z w.tables form (ask.fid).0 file e in
-        inr (f.version.0, f.short, (shown_bytes w.z.block w.contents file,
-        tree_look fid.0 ∙ ap (over (shown_bytes w.z.block w.contents)) (ap (λ (g : Fid). look g.0 w.tables.files) (sym same) ∙ e),
-        subst (λ (o : Option FileState). ShowsFile w.z.block w.contents ask.first ask.count (found_in w.tables.members ask.first ask.count o) (shown_bytes w.z.block w.contents file)) e
-        (answered_shows w.z.block w.contents w.tables (ask.fid).0 ask.first ask.count file (let l = a.limits.block_low in omega arith) a.stands.says.ends e)))
+        inr (
+          f.version.0,
+          f.short,
+          (
+            shown_bytes w.z.block w.contents file,
+            tree_look fid.0 ∙ ap (over (shown_bytes w.z.block w.contents)) (ap (λ (g : Fid). look g.0 w.tables.files) (sym same) ∙ e),
+            subst (λ (o : Option FileState). ShowsFile w.z.block w.contents ask.first ask.count (found_in w.tables.members ask.first ask.count o) (shown_bytes w.z.block w.contents file)) e
+                (answered_shows w.z.block w.contents w.tables (ask.fid).0 ask.first ask.count file (let l = a.limits.block_low in omega arith) a.stands.says.ends e),
+          ),
+        )
 
   module _ (seen : Tree) (c : SeenClient) (known : IsKnown c) (s : ClientIsSound w seen c) (task : Task) (is_task : c.task ≡ Some task) (at_lookup : task.step ≡ step.Lookup) where
     aim : AimFits c.kept c.queue (Some task.aim)
@@ -159,9 +164,21 @@ module _ (slots : ℕ) (w : Around) (a : IsAround slots w) where
 
     pub rest : AtRest w c
     rest = record {
-      sizes = s.sizes; settled = s.settled; short = s.short; short_queue = s.short_queue; numbered = known.numbered; log_is = known.log;
-      last = s.log.last; generation = s.log.generation; at = s.log.at; front = s.log.front; phase = s.log.phase;
-      current = s.log.current; flush = s.log.flush; rests = rests; cached = s.cached;
+      sizes = s.sizes;
+      settled = s.settled;
+      short = s.short;
+      short_queue = s.short_queue;
+      numbered = known.numbered;
+      log_is = known.log;
+      last = s.log.last;
+      generation = s.log.generation;
+      at = s.log.at;
+      front = s.log.front;
+      phase = s.log.phase;
+      current = s.log.current;
+      flush = s.log.flush;
+      rests = rests;
+      cached = s.cached;
     }
 
     may_asks : (asks : List Ask) → AreFoundFor c.block (room_of c.servers c.fragment) asks (founds w.tables asks)
@@ -189,8 +206,8 @@ module _ (slots : ℕ) (w : Around) (a : IsAround slots w) where
           let ask = ask_of c.block (Read r.fid r.offset r.len) in
           let found_is : Found_now ≡ founds w.tables (ask ∷ []) = ap (founds w.tables) (sym r.asks_are) in
           let may : AreFoundFor c.block (room_of c.servers c.fragment) (ask_of c.block read.call ∷ []) Found_now =
-              subst (λ (call : Call). AreFoundFor c.block (room_of c.servers c.fragment) (ask_of c.block call ∷ []) Found_now) (sym r.is)
-              (subst (λ (found : List Found). AreFoundFor c.block (room_of c.servers c.fragment) (ask ∷ []) found) (sym found_is) (may_asks (ask ∷ []))) in
+          subst (λ (call : Call). AreFoundFor c.block (room_of c.servers c.fragment) (ask_of c.block call ∷ []) Found_now) (sym r.is)
+          (subst (λ (found : List Found). AreFoundFor c.block (room_of c.servers c.fragment) (ask ∷ []) found) (sym found_is) (may_asks (ask ∷ []))) in
           record {
             may = (ap is_read r.is, may);
             within = read-within c.block (room_of c.servers c.fragment) read.call Found_now may;
@@ -209,7 +226,7 @@ module _ (slots : ℕ) (w : Around) (a : IsAround slots w) where
       looks_batch first others queue e =
           let run = run_of (first ∷ others) in
           let may : AreFoundFor c.block (room_of c.servers c.fragment) (asks_of c.block run) Found_now =
-              subst (λ (found : List Found). AreFoundFor c.block (room_of c.servers c.fragment) (asks_of c.block run) found) (ap (founds w.tables) e) (may_asks (asks_of c.block run)) in
+          subst (λ (found : List Found). AreFoundFor c.block (room_of c.servers c.fragment) (asks_of c.block run) found) (ap (founds w.tables) e) (may_asks (asks_of c.block run)) in
           record {
             may = may;
             within = batch-within c.block (room_of c.servers c.fragment) run Found_now may;
@@ -243,10 +260,19 @@ module _ (slots : ℕ) (w : Around) (a : IsAround slots w) where
         rest_asked : AtRest w Asked
         rest_asked = record {
           sizes = record { servers = s.sizes.servers; fragment = s.sizes.fragment; block = s.sizes.block };
-          settled = s.settled; short = s.short; short_queue = s.short_queue; numbered = known.numbered;
+          settled = s.settled;
+          short = s.short;
+          short_queue = s.short_queue;
+          numbered = known.numbered;
           log_is = record { log_is = known.log.log_is; servers = known.log.servers; fragment = known.log.fragment; room = known.log.room; block = known.log.block };
-          last = s.log.last; generation = s.log.generation; at = s.log.at; front = s.log.front; phase = s.log.phase;
-          current = s.log.current; flush = s.log.flush; rests = rests;
+          last = s.log.last;
+          generation = s.log.generation;
+          at = s.log.at;
+          front = s.log.front;
+          phase = s.log.phase;
+          current = s.log.current;
+          flush = s.log.flush;
+          rests = rests;
           cached = asked_each (λ (e : Ptr × List ℕ). (e.1 ≡ bytes_at w.contents e.0) × LiesIn w.tables.held e.0) (wanted_for c.block c.kept c.queue Found_now) c.cache.entries s.cached;
         }
 
@@ -269,9 +295,9 @@ module _ (slots : ℕ) (w : Around) (a : IsAround slots w) where
         found_sound heard on =
             let right = goes_on slots w a w.tree Asked rest_asked task is_task Looked (looks.current Looked refl held) held slot heard on in
             (right.0, as_before right.1) where
-          as_before : TellsRight w.tree Asked heard → TellsRight w.tree c heard
-          as_before (inl none) = inl none
-          as_before (inr (d, r)) = inr (d, record { reply = r.reply; right = r.right; is = r.is })
+              as_before : TellsRight w.tree Asked heard → TellsRight w.tree c heard
+              as_before (inl none) = inl none
+              as_before (inr (d, r)) = inr (d, record { reply = r.reply; right = r.right; is = r.is })
 
     -- ---- a read of names
 

@@ -1,7 +1,6 @@
 -- What happens inside a client.
-use Rattle.std.proofs.Common.{◌≡◌, ℕ, ◌+◌, ◌≤◌, Bool, true, false, List, [], ◌∷◌, ◌++◌, length, Option, Some, None, refl, sym, ap, ◌∙◌, subst, inl, inr, arith}
-use Rattle.std.specs.Prelude.{◌&&◌, if◌then◌else◌, nat_lt}
-use Rattle.std.specs.List.{AllByRecursion}
+use Rattle.std.proofs.Common.{◌≡◌, ℕ, Bool, false, List, [], ◌∷◌, ◌++◌, length, Option, None, refl, sym, ap, subst, arith}
+use Rattle.std.specs.Prelude.{◌&&◌, nat_lt}
 use Rattle.std.proofs.lemmas.Bool.{cond_both}
 use Rattle.zb_types.specs.Apply.{is_bufferable, is_update}
 use Rattle.zb_types.specs.Limits.{most_kept}
@@ -22,7 +21,7 @@ use Rattle.zb_work.specs.declared.work.Step.{Step}
 use Rattle.zb_work.specs.declared.work.Step.TheVariants as step
 use Rattle.zb_work.specs.declared.work.Task.{Task}
 use Rattle.zb_work.specs.Steps.{new_task, step_of}
-use Rattle.zb_client.specs.Seen.{SeenClient, first_client, unready}
+use Rattle.zb_client.specs.Seen.{SeenClient, first_client}
 use Rattle.zb_client.specs.Hearing.{keeps, takes_call, takes_first}
 use Rattle.zb_client.specs.Telling.{Heard, line, silent, tells}
 use Rattle.zb_client_laws.specs.Around.{Around, IsAround}

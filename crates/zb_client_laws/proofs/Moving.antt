@@ -1,21 +1,17 @@
 -- What was looked up, fetched and is being read, where stripes grow and servers carry out requests.
-use Rattle.std.proofs.Common.{◌≡◌, ℕ, zero, suc, ◌+◌, ◌≤◌, ◌<◌, List, [], ◌∷◌, Option, Some, None, refl, sym, ap, ◌∙◌, subst, inl, inr, arith}
-use Rattle.std.specs.Prelude.{◌⊎◌, drop, take}
+use Rattle.std.proofs.Common.{◌≡◌, ℕ, zero, suc, ◌+◌, ◌≤◌, ◌<◌, List, [], ◌∷◌, None, refl, sym, ap, ◌∙◌, subst, inl, arith}
+use Rattle.std.specs.Prelude.{drop, take}
 use Rattle.std.specs.List.{AllByRecursion}
 use Rattle.zb_types.specs.declared.ids.Ptr.{Ptr}
-use Rattle.zb_types.specs.declared.ids.LogId.{LogId}
-use Rattle.zb_types.specs.declared.ids.Piece.{Piece}
 use Rattle.zb_types.specs.declared.tables.Found.{Found}
 use Rattle.zb_types.specs.declared.tables.HeldUse.{HeldUse}
-use Rattle.zb_types.specs.Keyed.{look}
 use Rattle.zb_holding.specs.Holding.{Maps}
 use Rattle.zb_stripe.specs.declared.progress.Phase.{Phase}
 use Rattle.zb_stripe.specs.declared.progress.Phase.TheVariants.{Direct}
 use Rattle.zb_stripe.specs.Reading.{Reading}
-use Rattle.zb_stripe_laws.specs.ReadAtWork.{ReadAtWork, StillGrow}
+use Rattle.zb_stripe_laws.specs.ReadAtWork.{StillGrow}
 use Rattle.zb_stripe_laws.proofs.Ongoing.{stays}
-use Rattle.zb_tables.specs.Tables.{Contents, IsCommitted, LiesIn, SameIn, HeldOn, end_at}
-use Rattle.zb_tables.specs.Fold.{held_with_all}
+use Rattle.zb_tables.specs.Tables.{Contents, LiesIn, SameIn, HeldOn, end_at}
 use Rattle.zb_tables.specs.Taking.{Sizes}
 use Rattle.zb_sound.specs.LookupsCurrent.{SameFound}
 use Rattle.zb_sound.proofs.Looked.{pointer_stays}
@@ -39,6 +35,7 @@ take_within offset len end xs ys le e = sym (front offset len end xs le) ∙ ap 
   head (suc len) zero xs le = absurd (omega arith)
   head (suc len) (suc end) [] le = refl
   head (suc len) (suc end) (x ∷ xs) le = ap (λ (t : List ℕ). x ∷ t) (head len end xs (omega arith))
+
   front : (offset len end : ℕ) (xs : List ℕ) → offset + len ≤ end → take len (drop offset (take end xs)) ≡ take len (drop offset xs)
   front zero len end xs le = head len end xs (omega arith)
   front (suc offset) len zero xs le = absurd (omega arith)

@@ -1,11 +1,10 @@
 -- A client beside a request or a commit of another.
-use Rattle.std.proofs.Common.{◌≡◌, ◌≢◌, ℕ, ◌≤◌, ◌<◌, List, [], ◌∷◌, ◌++◌, length, Option, Some, None, refl, sym, ap, ◌∙◌, subst, inl, inr, arith}
-use Rattle.std.specs.Prelude.{◌⊎◌, All, slice_get}
+use Rattle.std.proofs.Common.{◌≡◌, ◌≢◌, ℕ, List, [], ◌∷◌, length, Option, Some, None, refl, sym, ap, ◌∙◌, inl, inr, arith}
+use Rattle.std.specs.Prelude.{slice_get}
 use Rattle.std.specs.Prelude.{◌-◌, slice_index_or}
 use Rattle.std.specs.List.{AllByRecursion}
 use Rattle.zb_types.specs.declared.calls.Call.{Call}
 use Rattle.zb_types.specs.declared.calls.Call.TheVariants.{Create, Mkdir, Remove, Rename, Write, Truncate, Sync, Read, List as ListOf, Stat, Find}
-use Rattle.zb_types.specs.declared.ids.LogId.{LogId}
 use Rattle.zb_types.specs.declared.ids.Piece.{Piece}
 use Rattle.zb_types.specs.declared.ids.ServerId.{ServerId}
 use Rattle.zb_types.specs.declared.nodes.Class.{Class}
@@ -13,7 +12,6 @@ use Rattle.zb_types.specs.declared.requests.Request.{Request}
 use Rattle.zb_types.specs.declared.tables.Found.{Found}
 use Rattle.zb_types.specs.declared.tables.HeldUse.{HeldUse}
 use Rattle.zb_types.specs.Tree.{Tree}
-use Rattle.zb_stripe.specs.declared.flush.Part.{Part}
 use Rattle.zb_stripe.specs.declared.flush.Flush.{Flush}
 use Rattle.zb_stripe.specs.Writing.{plan_requests}
 use Rattle.zb_batch.specs.declared.batch.Batch.{Batch}
@@ -21,7 +19,7 @@ use Rattle.zb_tables.specs.Checkpoint.{AreTables}
 use Rattle.zb_tables.specs.Fold.{Shelf, committed, held_with_all}
 use Rattle.zb_tables.specs.Tables.{Contents, HeldOn, SameIn, Tables}
 use Rattle.zb_sound.specs.Delivering.{FlushWorks, allowed, after_asked, with_parts}
-use Rattle.zb_sound.specs.LastFlush.{IsBefore, LastFlush, NothingFrom, OfName, parts_in}
+use Rattle.zb_sound.specs.LastFlush.{IsBefore, OfName, parts_in}
 use Rattle.zb_tables.proofs.Holding.{with_all_on}
 use Rattle.zb_sound.proofs.Delivering.{get_behind, others_stand}
 use Rattle.zb_sound.proofs.Fronts.{nothing_still, plan_of}
@@ -83,9 +81,11 @@ module _ (slots : ℕ) (w : Around) (seen : Tree) (c : SeenClient) (a : IsAround
 
     step_beside : (st : Step) → StepIsCurrent w seen c st → StepIsCurrent (after_request w asked) seen c st
     step_beside step.Lookup h = h
-    step_beside (step.Fetch basis at ptr plan) h =
-        (h.0, reading_moves w.z w.contents w.contents w.st.maps (after_asked w.st asked).maps w.tables.held w.tables.held ptr plan
-        (let l = a.limits.servers_low in omega arith) (let l = a.limits.fragment_low in omega arith) (λ l s. refl) (λ l s. omega arith) h.1)
+    step_beside (step.Fetch basis at ptr plan) h = (
+      h.0,
+      reading_moves w.z w.contents w.contents w.st.maps (after_asked w.st asked).maps w.tables.held w.tables.held ptr plan
+          (let l = a.limits.servers_low in omega arith) (let l = a.limits.fragment_low in omega arith) (λ l s. refl) (λ l s. omega arith) h.1,
+    )
     step_beside (step.Store basis formed) h = h
     step_beside (step.Mark server generation) h = h
     step_beside (step.Commit basis sealed) h = h
@@ -160,9 +160,16 @@ module _ (slots : ℕ) (w : Around) (seen : Tree) (c : SeenClient) (a : IsAround
     shows_later : (call : Call) (founds : List Found) → AllByRecursion (FoundLies w.tables.held) founds → ShowsFound w.z.block w.contents seen call founds → ShowsFound w.z.block New seen call founds
     shows_later (Read fid offset len) (found ∷ []) lies (inl none) = inl none
     shows_later (Read fid offset len) (found ∷ []) lies (inr some) =
-        inr (some.0, some.1, (some.2.0, some.2.1,
-        grown_shows w.z.block w.contents New (ask_of w.z.block (Read fid offset len)).first (ask_of w.z.block (Read fid offset len)).count found some.2.0
-        (found_same w.contents New w.tables.held found same lies.0) some.2.2))
+        inr (
+          some.0,
+          some.1,
+          (
+            some.2.0,
+            some.2.1,
+            grown_shows w.z.block w.contents New (ask_of w.z.block (Read fid offset len)).first (ask_of w.z.block (Read fid offset len)).count found some.2.0
+                (found_same w.contents New w.tables.held found same lies.0) some.2.2,
+          ),
+        )
     shows_later (Read fid offset len) [] lies h = h
     shows_later (Read fid offset len) (found ∷ (more ∷ rest)) lies h = h
     shows_later (Create path) founds lies h = h
@@ -189,9 +196,11 @@ module _ (slots : ℕ) (w : Around) (seen : Tree) (c : SeenClient) (a : IsAround
 
     step_later : (st : Step) → StepIsCurrent w seen c st → StepIsCurrent (after_commit w flush number pieces after tree) seen c st
     step_later step.Lookup h = h
-    step_later (step.Fetch basis at ptr plan) h =
-        (work_later c.kept c.queue basis h.0, reading_moves w.z w.contents New w.st.maps w.st.maps w.tables.held Later ptr plan
-        (let l = a.limits.servers_low in omega arith) (let l = a.limits.fragment_low in omega arith) same on h.1)
+    step_later (step.Fetch basis at ptr plan) h = (
+      work_later c.kept c.queue basis h.0,
+      reading_moves w.z w.contents New w.st.maps w.st.maps w.tables.held Later ptr plan
+          (let l = a.limits.servers_low in omega arith) (let l = a.limits.fragment_low in omega arith) same on h.1,
+    )
     step_later (step.Store basis formed) h = (batch_later (run_of c.kept) basis h.0, h.1)
     step_later (step.Mark server generation) h = h
     step_later (step.Commit basis sealed) h = (batch_later (run_of c.kept) basis h.0, h.1)

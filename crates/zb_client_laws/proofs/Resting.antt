@@ -1,15 +1,11 @@
 -- A client whose log rests, and where its next flush begins.
-use Rattle.std.proofs.Common.{◌≡◌, ℕ, zero, suc, ◌+◌, ◌-◌, ◌*◌, ◌<◌, ◌≤◌, Bool, true, false, eqb, List, [], ◌∷◌, Option, Some, None, refl, sym, ap, ◌∙◌, subst, arith}
-use Rattle.std.specs.Prelude.{◌&&◌, ◌==◌, if◌then◌else◌, All, slice_get, IfSome}
+use Rattle.std.proofs.Common.{◌≡◌, ℕ, ◌+◌, ◌-◌, ◌<◌, ◌≤◌, Bool, true, false, eqb, List, [], Option, Some, None, refl, sym, ◌∙◌, subst, arith}
+use Rattle.std.specs.Prelude.{◌&&◌, if◌then◌else◌, All}
 use Rattle.std.specs.Bool.{MatchBool}
 use Rattle.std.proofs.lemmas.Bool.{eqb-true}
 use Rattle.zb_types.specs.declared.ids.LogId.{LogId}
-use Rattle.zb_types.specs.declared.ids.ServerId.{ServerId}
-use Rattle.zb_types.specs.declared.nodes.Class.TheVariants.{Client}
-use Rattle.zb_types.specs.declared.requests.Request.{Request}
 use Rattle.zb_stripe.specs.declared.flush.Flush.{Flush}
-use Rattle.zb_stripe.specs.declared.flush.Part.{Part}
-use Rattle.zb_stripe.specs.Writing.{StripesRise, plan_requests}
+use Rattle.zb_stripe.specs.Writing.{StripesRise}
 use Rattle.zb_log.specs.Logs.{AreGiven, SeenLog, renewed}
 use Rattle.zb_log.specs.Sealing.{GoesNext}
 use Rattle.zb_log.proofs.Parting.{none_given}

@@ -1,11 +1,10 @@
 -- A read of a pointer into what is held, as it begins.
-use Rattle.std.proofs.Common.{◌≡◌, ℕ, zero, suc, ◌+◌, ◌-◌, ◌<◌, ◌≤◌, Bool, true, false, List, [], ◌∷◌, Option, Some, None, refl, sym, ap, ◌∙◌, subst, get_or, arith}
-use Rattle.std.specs.Prelude.{◌&&◌, if◌then◌else◌, map, nat_lt, take}
+use Rattle.std.proofs.Common.{◌≡◌, ℕ, zero, suc, ◌+◌, ◌<◌, ◌≤◌, Bool, false, List, [], ◌∷◌, Option, Some, None, refl, sym, ap, subst, get_or, arith}
+use Rattle.std.specs.Prelude.{if◌then◌else◌, map, nat_lt}
 use Rattle.std.specs.List.{range_with_len}
 use Rattle.std.proofs.lemmas.Bool.{and_right}
 use Rattle.zb_types.specs.declared.ids.LogId.{LogId}
 use Rattle.zb_types.specs.declared.ids.Ptr.{Ptr}
-use Rattle.zb_types.specs.declared.ids.ServerId.{ServerId}
 use Rattle.zb_types.specs.declared.tables.HeldUse.{HeldUse}
 use Rattle.zb_stripe.specs.declared.progress.Phase.{Phase}
 use Rattle.zb_stripe.specs.declared.progress.Phase.TheVariants.{Direct, Lengths}
@@ -13,8 +12,7 @@ use Rattle.zb_stripe.specs.Reading.{Reading, end_of as read_end, first_lost, ind
 use Rattle.zb_stripe_laws.specs.ReadAtWork.{ReadAtWork, StillGrow}
 use Rattle.zb_stripe_laws.proofs.Gathering.{starts}
 use Rattle.zb_stripe_laws.proofs.Ongoing.{at_work, starts_clear, stays}
-use Rattle.zb_tables.specs.Tables.{Contents, LiesIn, end_at, end_of, held_at}
-use Rattle.zb_sound.specs.Delivering.{allowed}
+use Rattle.zb_tables.specs.Tables.{LiesIn, end_at, end_of, held_at}
 use Rattle.zb_sound.specs.LookupsCurrent.{RemainsIn}
 use Rattle.zb_sound.specs.Standing.{seen}
 use Rattle.zb_sound.proofs.Righted.{held_right}

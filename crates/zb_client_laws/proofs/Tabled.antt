@@ -1,15 +1,13 @@
 -- What the tables have of a file may be found, and lies in what is held.
-use Rattle.std.proofs.Common.{◌≡◌, ◌≢◌, ℕ, zero, suc, ◌+◌, ◌<◌, ◌≤◌, Bool, true, false, eqb, List, [], ◌∷◌, Option, Some, None, refl, sym, ap, ◌∙◌, subst, inl, inr, arith}
-use Rattle.std.specs.Prelude.{◌⊎◌, ◌&&◌, ◌^◌, if◌then◌else◌, All, AllPairs, filter, nat_le, nat_lt}
-use Rattle.std.specs.List.{AllByRecursion, AllZip}
+use Rattle.std.proofs.Common.{◌≡◌, ◌≢◌, ℕ, zero, suc, ◌+◌, ◌<◌, ◌≤◌, Bool, true, false, List, [], ◌∷◌, Option, Some, None, refl, sym, ap, ◌∙◌, inl, inr, arith}
+use Rattle.std.specs.Prelude.{◌⊎◌, ◌&&◌, if◌then◌else◌, nat_le, nat_lt}
+use Rattle.std.specs.List.{AllByRecursion}
 use Rattle.std.proofs.lemmas.Bool.{and_parts, cases_eq, eq-eqb, ne_eqb, leb-true, ltb-true}
 use Rattle.zb_types.specs.declared.ids.Ptr.{Ptr}
-use Rattle.zb_types.specs.declared.nodes.Members.{Members}
 use Rattle.zb_types.specs.declared.tables.Found.{Found}
-use Rattle.zb_types.specs.declared.tables.HeldUse.{HeldUse}
 use Rattle.zb_types.specs.Keyed.{look}
 use Rattle.zb_types.proofs.KeyedLists.{IsRising, IsRising-from_ordered, KeysAbove, KeysAbove-lower, look-below}
-use Rattle.zb_tables.specs.Checkpoint.{AreTables, IsFile, IsPlace}
+use Rattle.zb_tables.specs.Checkpoint.{AreTables, IsPlace}
 use Rattle.zb_tables.specs.Finding.{among, found, found_in}
 use Rattle.zb_tables.specs.Tables.{EachFile, FileState, LiesIn, PointsIn, Tables}
 use Rattle.zb_tables.specs.Taking.{IsPointer, Sizes, stripe_room}
@@ -32,7 +30,7 @@ module _ (P : Ptr → Type 0) where
   looked_each [] rises at = tt
   looked_each (e ∷ es) rises at = (
     at e.0 e.1 (ap (λ (t : Bool). if t then Some e.1 else look e.0 es) (eq-eqb e.0 e.0 refl)),
-    looked_each es rises.1 (λ k p is. at k p (behind k p is (cases_eq e.0 k)))
+    looked_each es rises.1 (λ k p is. at k p (behind k p is (cases_eq e.0 k))),
   ) where
     behind : (k : ℕ) (p : Ptr) → look k es ≡ Some p → (e.0 ≡ k) ⊎ (e.0 ≢ k) → look k (e ∷ es) ≡ Some p
     behind k p is (inl same) = absurd (nothing (sym (look-below k e.0 es (omega (arith, same)) rises.0) ∙ is)) where
@@ -66,11 +64,12 @@ module _ (first count : ℕ) where
       above_by least e (among first count es) (nat_le first e.0 && nat_lt e.0 (first + count)) (least_of least low)
       (among_rises (e.0 + 1) es rises.1 (λ k le. lower k es (omega arith) rises.0))
       (among_rises least es rises.1 (λ k le. (low k le).1)) where
-    least_of : (least : ℕ) → ((k : ℕ) → k + 1 ≤ least → KeysAbove k (e ∷ es)) → least ≤ e.0
-    least_of zero low = omega arith
-    least_of (suc n) low = let l = (low n (omega arith)).0 in omega (arith, l)
-    lower : (k : ℕ) (es : Pairs) → k ≤ e.0 → KeysAbove e.0 es → KeysAbove k es
-    lower k es le above = KeysAbove-lower k e.0 es le above
+        least_of : (least : ℕ) → ((k : ℕ) → k + 1 ≤ least → KeysAbove k (e ∷ es)) → least ≤ e.0
+        least_of zero low = omega arith
+        least_of (suc n) low = let l = (low n (omega arith)).0 in omega (arith, l)
+
+        lower : (k : ℕ) (es : Pairs) → k ≤ e.0 → KeysAbove e.0 es → KeysAbove k es
+        lower k es le above = KeysAbove-lower k e.0 es le above
 
 module _ (z : Sizes) (t : Tables) (f : AreTables z t) (points : EachFile (PointsIn t.held) t.files) where
   -- one lookup

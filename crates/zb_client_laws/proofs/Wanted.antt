@@ -1,8 +1,7 @@
 -- The old blocks that are wanted lie in what is held, where all that was found does.
-use Rattle.std.proofs.Common.{◌≡◌, ℕ, zero, suc, ◌<◌, List, [], ◌∷◌, Option, Some, None, length, refl, sym, subst, arith}
+use Rattle.std.proofs.Common.{◌≡◌, ℕ, zero, suc, ◌<◌, List, [], ◌∷◌, length, subst, arith}
 use Rattle.std.specs.Prelude.{All, Any, slice_index_or}
 use Rattle.std.specs.List.{AllByRecursion}
-use Rattle.zb_types.specs.declared.calls.Call.{Call}
 use Rattle.zb_types.specs.declared.ids.Ptr.{Ptr}
 use Rattle.zb_types.specs.declared.tables.Found.{Found}
 use Rattle.zb_types.specs.declared.tables.HeldUse.{HeldUse}

@@ -1,5 +1,5 @@
 -- What a client has looked up, fetched and is reading, against tables, stripes and servers as they are now.
-use Rattle.std.specs.Prelude.{◌≡◌, ◌⊎◌, ℕ, ◌+◌, ◌≤◌, ◌<◌, List, [], ◌∷◌, Option, Some, None, false}
+use Rattle.std.specs.Prelude.{◌≡◌, ◌⊎◌, ℕ, ◌+◌, ◌≤◌, ◌<◌, List, [], ◌∷◌, Some, None, false}
 use Rattle.std.specs.List.{AllByRecursion}
 use Rattle.zb_types.specs.declared.calls.Call.{Call}
 use Rattle.zb_types.specs.declared.calls.Call.TheVariants.{Read}

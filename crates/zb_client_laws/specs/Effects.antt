@@ -1,9 +1,7 @@
 -- What a step of a client does around it.
 use Rattle.std.specs.Prelude.{◌≡◌, ◌⊎◌, ℕ, List, [], ◌∷◌, All, Ok, false, map}
 use Rattle.std.specs.List.{AllByRecursion}
-use Rattle.zb_types.specs.declared.calls.Call.{Call}
 use Rattle.zb_types.specs.declared.calls.Reply.{Reply}
-use Rattle.zb_types.specs.declared.ids.LogId.{LogId}
 use Rattle.zb_types.specs.declared.ids.Piece.{Piece}
 use Rattle.zb_types.specs.declared.ids.ServerId.{ServerId}
 use Rattle.zb_types.specs.declared.lines.Said.TheVariants as said
@@ -27,7 +25,6 @@ use Rattle.zb_client.specs.Seen.{SeenClient}
 use Rattle.zb_client.specs.declared.steps.Told.TheVariants as told
 use Rattle.zb_client.specs.Telling.{Heard, answers_read}
 use Rattle.zb_client_laws.specs.Around.{Around}
-use Rattle.zb_client_laws.specs.Sound.{ClientIsSound}
 
 -- one server has carried out a request
 abbrev pub after_request : Around → ServerId × Request → Around

@@ -1,5 +1,5 @@
 -- What is true of a client in a sound world.
-use Rattle.std.specs.Prelude.{◌≡◌, List, ◌∷◌, None}
+use Rattle.std.specs.Prelude.{◌≡◌, ℕ, ◌+◌, ◌==◌, if◌then◌else◌, List, slice_get, Some, None}
 use Rattle.zb_types.specs.Tree.{Tree}
 use Rattle.zb_sound.specs.OldStripes.{CopiesAreCurrent}
 use Rattle.zb_basis.specs.Runs.{run_of}
@@ -33,3 +33,11 @@ pub record ClientIsSound (w : Around) (seen : Tree) (c : SeenClient) : Type 0 wh
   pub log : LogIsAtWork w c
   pub step : StepIsCurrent w seen c (step_of c.task)
   pub cached : CopiesAreCurrent w.contents w.tables.held c.cache.entries
+
+-- each client of a system is sound, its lookup for a read being of its tree among these; clients are numbered from 1
+abbrev pub ClientsAreSound : Around → (ℕ → Tree) → List SeenClient → Type 0
+ClientsAreSound w seen clients = (i : ℕ) (c : SeenClient) → slice_get clients i ≡ Some c → ClientIsSound w (seen i) c × (c.client ≡ i + 1)
+
+-- the trees with another one for this client
+abbrev pub with_seen : (ℕ → Tree) → ℕ → Tree → ℕ → Tree
+with_seen seen i tree j = if j == i then tree else seen j

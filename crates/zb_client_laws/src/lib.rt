@@ -8,6 +8,7 @@ mod fetches;
 mod inside;
 mod lookups;
 mod stores;
+mod together;
 
 pub use beside::clients_stay_sound;
 pub use commits::commits_are_sound;
@@ -15,3 +16,4 @@ pub use fetches::fetches_are_sound;
 pub use inside::moves_inside_are_sound;
 pub use lookups::lookups_are_sound;
 pub use stores::stores_are_sound;
+pub use together::clients_stay_sound_together;

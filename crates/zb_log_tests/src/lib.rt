@@ -1,4 +1,5 @@
-//! Tests of the spelling of numbers, deltas and batches, of a client's log, and of blocks in stripes.
+//! Tests of the plain values, of the spelling of numbers, deltas and batches, of the conflict table, of a client's log, and
+//! of blocks in stripes.
 #![tactic(auto)]
 
 #[cfg(test)]
@@ -8,8 +9,12 @@ mod blocks;
 #[cfg(test)]
 mod cache;
 #[cfg(test)]
+mod conflict;
+#[cfg(test)]
 mod deltas;
 #[cfg(test)]
 mod logs;
 #[cfg(test)]
 mod numbers;
+#[cfg(test)]
+mod types;

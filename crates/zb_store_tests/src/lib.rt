@@ -1,4 +1,4 @@
-//! Tests of what stores fragments on a platter: headers, slots, the index, the map of slots, the store and its node.
+//! Tests of what stores fragments on a platter: headers, slots, the index, the map of slots, and the store.
 #![tactic(auto)]
 
 #[cfg(test)]
@@ -9,8 +9,6 @@ mod headers;
 mod index;
 #[cfg(test)]
 mod map;
-#[cfg(test)]
-mod node;
 #[cfg(test)]
 mod opening;
 #[cfg(test)]

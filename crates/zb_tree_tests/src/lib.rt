@@ -1,9 +1,7 @@
-//! Tests of the plain values, the names, and the plain tree as a value; and of the files' blocks, the conflict table and
-//! the file manager, with random batches beside the plain tree.
+//! Tests of the names and the plain tree as a value; and of the files' blocks and the file manager, with random batches
+//! beside the plain tree.
 #![tactic(auto)]
 
-#[cfg(test)]
-mod conflict;
 #[cfg(test)]
 mod first_run;
 #[cfg(test)]
@@ -16,5 +14,3 @@ mod names;
 mod pointers;
 #[cfg(test)]
 mod random_batches;
-#[cfg(test)]
-mod types;

@@ -69,12 +69,13 @@ pub record IsNewOf (n f : ℕ) (log : SeenLog) (placed : Placed) (fresh : FreshF
   pub is_fresh : IsFreshFlush n f (flush_of log given placed new) fresh
   pub end : end_with log.next (last_of (flush_of log given placed new).parts) ≡ placed.next
 
--- a batch of the kept calls has its place next in the log, which may go on behind it, and the requests that are left are
--- about stripes of the batch
+-- a batch of the kept calls has its place next in the log, which may go on behind it; some requests are left, and they
+-- are about stripes of the batch
 pub record IsStoring (n f : ℕ) (log : SeenLog) (kept : List Numbered) (doubted : ℕ) (formed : Formed) : Type 0 where
   pub settled : doubted ≡ 0
   pub count : length formed.sealed.batch.ops ≡ length (run_of kept)
   pub sealed : IsSealed log formed.sealed.placed formed.fresh
+  pub some : 0 < length formed.plan
   pub about : ForGiven log (λ given. All (λ asked. IsAbout log.next.stripe formed.sealed.placed.next.stripe asked.1) formed.plan)
   pub flush : ForGiven log (IsNewOf n f log formed.sealed.placed formed.fresh)
 
@@ -83,7 +84,7 @@ pub record IsCommitting (kept : List Numbered) (doubted : ℕ) (sealed : Sealed)
   pub settled : doubted ≡ 0
   pub count : length sealed.batch.ops ≡ length (run_of kept)
 
--- what is true of a step: while a batch is in doubt, it is a lookup; of a fetch a request stands
+-- what is true of a step: while a batch is in doubt, it is a lookup; of a fetch and of a store a request stands
 abbrev pub StepFits : ℕ → ℕ → ℕ → SeenLog → List Numbered → List Numbered → ℕ → Step → Type 0
 StepFits n f b log kept queue doubted Lookup = Unit {0}
 StepFits n f b log kept queue doubted (Fetch basis at ptr plan) = IsFetching n f b kept queue doubted basis at ptr × Stands plan

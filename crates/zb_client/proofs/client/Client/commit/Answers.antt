@@ -4,9 +4,7 @@ use Rattle.zb_client.proofs.client.Client.commit.Goals as goal
 
 pub invariant_of-self : goal.invariant_of-self
 invariant_of-self c = (
-  record { log_is = search rules; behind = search rules; updates = updates_left _ c.self.inside.kept.items c.leave.new.kept.items c.leave.ensures.kept c.self.invariant.0.updates; in_doubt = search rules; work = search rules },
-  c.self.invariant.1,
+  record { updates = updates_left _ c.self.inside.kept.items c.leave.new.kept.items c.leave.ensures.kept c.self.invariant.0.updates; in_doubt = search rules; work = search rules },
   search rules,
-  search rules,
-  c.leave.ensures.aim c.self.inside.queue.items c.self.invariant.4,
+  c.leave.ensures.aim c.self.inside.queue.items c.self.invariant.2,
 )

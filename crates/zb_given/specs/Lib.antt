@@ -1,0 +1,14 @@
+pub mod Given
+pub mod Calls
+pub mod Adds
+pub mod Gives
+pub mod Telling
+pub mod Ends
+pub mod Loops
+pub mod Stays
+pub mod Lifts
+pub mod Completing
+pub mod Queues
+pub mod Batches
+pub mod Reasoning
+pub mod Worked

@@ -1,0 +1,4 @@
+pub mod Desks
+pub mod Going
+pub mod Serving
+pub mod Ahead

@@ -1,15 +1,16 @@
 -- A stored batch whose lookups are at the versions of the tables is not refused.
-use Rattle.std.proofs.Common.{◌≡◌, ℕ, ◌≤◌, ◌<◌, Bool, true, false, List, [], ◌∷◌, Option, Some, None, refl, sym, ap, ◌∙◌, subst, arith}
-use Rattle.std.specs.Prelude.{IsTrue, length, ◌==◌, nat_le, nat_lt, if◌then◌else◌, Result}
+use Rattle.std.proofs.Common.{◌≡◌, ℕ, ◌-◌, ◌≤◌, ◌<◌, Bool, true, false, List, [], ◌∷◌, Option, Some, None, refl, sym, ap, ◌∙◌, subst, arith}
+use Rattle.std.specs.Prelude.{IsTrue, length, ◌==◌, nat_le, nat_lt, if◌then◌else◌, Result, Ok, Err}
 use Rattle.std.specs.List.{AllByRecursion}
 use Rattle.std.proofs.lemmas.Bool.{false≢true}
 use Rattle.std.proofs.lemmas.Bool.Decides.{nat_tests}
-use Rattle.std.proofs.lemmas.Option.{none-some}
+use Rattle.std.proofs.lemmas.Option.{none-some, same_Some}
 use Rattle.zb_types.specs.declared.ids.LogId.{LogId}
 use Rattle.zb_types.specs.declared.ids.Piece.{Piece}
 use Rattle.zb_types.specs.declared.tables.CommitFault.{CommitFault}
-use Rattle.zb_types.specs.declared.tables.CommitFault.TheVariants.{Regen, Worn}
+use Rattle.zb_types.specs.declared.tables.CommitFault.TheVariants.{Regen, Stale as StaleFault, Worn}
 use Rattle.zb_types.specs.Keyed.{look}
+use Rattle.zb_types.specs.Limits.{most_kept}
 use Rattle.zb_types.specs.Tree.{Tree}
 use Rattle.zb_stripe_laws.specs.PartAtWork.{StripesDiffer}
 use Rattle.zb_stripe_laws.proofs.Plans.{rise_differ}
@@ -19,6 +20,7 @@ use Rattle.zb_batch.specs.declared.batch.Op.{Op}
 use Rattle.zb_batch.specs.Batches.{is_company}
 use Rattle.zb_tables.specs.Fold.{Shelf, Stale, done_ops, shelf_of}
 use Rattle.zb_tables.specs.Tables.{Contents, LiesIn, SameIn, bytes_at, last_value}
+use Rattle.zb_tables.specs.Leaving.{IsOfUpdate}
 use Rattle.zb_tables.specs.Taking.{any_wears, below_mark, commit_refusal, mark_of, or_else, regen_of, stale_of, worn_of}
 use Rattle.zb_sound.specs.LookupsCurrent.{AreFetched}
 use Rattle.zb_sound.proofs.Flushing.{parts_same}
@@ -34,7 +36,9 @@ use Rattle.zb_basis.proofs.Each.{each-weaker}
 use Rattle.zb_forming_laws.specs.Flushing.{contents_with}
 use Rattle.zb_forming_laws.specs.Resting.{pairs_of}
 use Rattle.zb_forming_laws.proofs.Finding.{blocks-stand, pieces-ahead}
+use Rattle.zb_forming_laws.proofs.Passing.{all-grown}
 use Rattle.zb_forming_laws.proofs.Standing.{contents-stand}
+use Rattle.zb_forming_laws.proofs.UpdateKinds.{batch-kinds}
 use Rattle.zb_work.specs.Blocks.{there}
 use Rattle.zb_work.specs.declared.work.Step.{Step}
 use Rattle.zb_work.specs.declared.work.Step.TheVariants as step
@@ -44,8 +48,11 @@ use Rattle.zb_client_laws.specs.Around.{Around, IsAround, at_rest}
 use Rattle.zb_client_laws.specs.Effects.{founds}
 use Rattle.zb_client_laws.specs.Sound.{ClientIsSound}
 use Rattle.zb_client_laws.proofs.Blocks.{all_there}
+use Rattle.zb_client_laws.proofs.Lasting.{short_run}
+use Rattle.zb_client_laws.proofs.Moving.{founds_same}
 use Rattle.zb_client_laws.proofs.Delivered.{Former, Given, Is, Are, Stored, Whole, current, delivered, log_is, standing}
-use Rattle.zb_progress.specs.Fresh.{MayRise, is_fresh, is_fresh_at, same_numbers, versions_of}
+use Rattle.zb_progress.specs.Fresh.{IsStale, MayRise, is_fresh, is_fresh_at, same_numbers, versions_of}
+use Rattle.zb_progress.proofs.Rising.{company-few, none-wears, room-most}
 use Rattle.zb_progress.proofs.Versions.{IsDone, batch-done}
 
 -- pieces that don't lie below a mark
@@ -73,6 +80,12 @@ not-worn n m worn low most e =
 pub some-op : (os : List Op) → IsTrue (is_company os) → 1 ≤ length os
 some-op [] t = absurd (false≢true t)
 some-op (o ∷ os) t = omega arith
+
+-- a stored batch has at most eight operations
+pub sealed-few : (w : Around) (seen : Tree) (c : SeenClient) (s : ClientIsSound w seen c) (basis : Basis) (sealed : Sealed) → step_of c.task ≡ step.Commit basis sealed → length sealed.batch.ops ≤ most_kept
+sealed-few w seen c s basis sealed e =
+    subst (λ (x : Sealed). length x.batch.ops ≤ most_kept) (sym (delivered w seen c s basis sealed e).sealed_is)
+    (company-few (Whole w seen c s basis sealed e).sealed.batch.ops (Is w seen c s basis sealed e).spelled.company)
 
 module _ (w : Around) (seen : Tree) (c : SeenClient) (s : ClientIsSound w seen c) (basis : Basis) (sealed : Sealed) (e : step_of c.task ≡ step.Commit basis sealed)
     (slots : ℕ) (a : IsAround slots w) where
@@ -110,6 +123,19 @@ module _ (w : Around) (seen : Tree) (c : SeenClient) (s : ClientIsSound w seen c
       is.is_batch.of_calls (bytes_at New)
       (contents-stand New basis.fetched (Whole w seen c s basis sealed e).sealed.placed.ptrs is.blocks fetched
       (blocks-stand w.z.servers w.z.fragment w.z.block F c.batch (first_members basis.found) (run_of c.kept) basis (Whole w seen c s basis sealed e) is G (Are w seen c s basis sealed e) w.contents))
+
+  -- each is an update's
+  updates : AllByRecursion IsOfUpdate Made.ops
+  updates =
+      let is = Is w seen c s basis sealed e in
+      let now = current w seen c s basis sealed e in
+      batch-kinds w.z.block New w.tables (run_of c.kept) basis F.log c.batch Made (Whole w seen c s basis sealed e).sealed.placed.ptrs is.blocks is.is_batch
+      (record {
+        short = short_run c.kept s.short;
+        current = all-grown w.z.block (run_of c.kept) basis.found w.contents New w.tables (founds_same w.contents New w.tables.held basis.found same now.0.rests.lie) same a.stands.says.points now.0.current;
+        fetched = fetched;
+        stand = blocks-stand w.z.servers w.z.fragment w.z.block F c.batch (first_members basis.found) (run_of c.kept) basis (Whole w seen c s basis sealed e) is G (Are w seen c s basis sealed e) w.contents;
+      })
 
   -- ---- it isn't behind the members
 
@@ -161,10 +187,26 @@ module _ (w : Around) (seen : Tree) (c : SeenClient) (s : ClientIsSound w seen c
     fresh-committed =
         subst (λ (x : Sealed). commit_refusal w.z.block w.tables x.batch x.placed.pieces x.members.generation ≡ None) (sym (delivered w seen c s basis sealed e).sealed_is) not-refused
 
-  pub refused-old : (may : MayRise w.tables) (number : c.batch ≤ last_value) (fault : CommitFault)
-      → commit_refusal w.z.block w.tables sealed.batch sealed.placed.pieces sealed.members.generation ≡ Some fault → is_fresh w.tables c ≡ false
-  refused-old may number fault is =
-      cond-old (is_fresh w.tables c) (λ t. none-some fault (sym (fresh-committed may number t) ∙ is)) where
-        cond-old : (t : Bool) → (t ≡ true → ⊥) → t ≡ false
-        cond-old true no_way = absurd (no_way refl)
-        cond-old false no_way = refl
+  module _ (may : MayRise w.tables) (number : c.batch ≤ last_value) where
+    worn-none : worn_of w.z.block w.tables Made ≡ None
+    worn-none =
+        let few = company-few Made.ops (Is w seen c s basis sealed e).spelled.company in
+        not-worn w.tables.next_entry Made.number (any_wears w.z.block Made.ops (shelf_of w.tables)) may.entry
+        (subst (λ (n : ℕ). n ≤ last_value) (sym (Is w seen c s basis sealed e).is_batch.numbered) number)
+        (none-wears w.z.block Made.ops (last_value - most_kept) (shelf_of w.tables) updates (room-most w.tables may) (omega (arith, few)))
+
+    stale-by : (fault : CommitFault) (d : Result Shelf Stale) → or_else (stale_of d) (worn_of w.z.block w.tables Made) ≡ Some fault → IsStale fault
+    stale-by fault (Ok after) is = absurd (none-some fault (sym worn-none ∙ is))
+    stale-by fault (Err stale) is = subst IsStale (same_Some (StaleFault stale.fid stale.seen stale.now) fault is) tt
+
+    pub refused-stale : (fault : CommitFault) → commit_refusal w.z.block w.tables sealed.batch sealed.placed.pieces sealed.members.generation ≡ Some fault
+        → IsStale fault × (is_fresh w.tables c ≡ false)
+    refused-stale fault is = (
+      stale-by fault (done_ops w.z.block Made.ops (shelf_of w.tables))
+          (sym (ap (λ (o : Option CommitFault). or_else o (or_else (stale_of (done_ops w.z.block Made.ops (shelf_of w.tables))) (worn_of w.z.block w.tables Made))) not-regen)
+          ∙ subst (λ (x : Sealed). commit_refusal w.z.block w.tables x.batch x.placed.pieces x.members.generation ≡ Some fault) (delivered w seen c s basis sealed e).sealed_is is),
+      old (is_fresh w.tables c) (λ t. none-some fault (sym (fresh-committed may number t) ∙ is)),
+    ) where
+      old : (t : Bool) → (t ≡ true → ⊥) → t ≡ false
+      old true none = absurd (none refl)
+      old false none = refl

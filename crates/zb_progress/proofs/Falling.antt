@@ -29,11 +29,19 @@ at-lookup z t c e =
     ap (λ (s : Step). stage z s + stale_steps z (is_fresh_at t c.block c.kept s)) e
     ∙ ap (λ (fresh : Bool). steps_from_lookup z + stale_steps z fresh) (fresh-lookup t c.block c.kept) ∙ omega arith
 
--- some of the work is done, and the client is at a lookup
-pub rank-falls : (z : Sizes) (t u : Tables) (c d : SeenClient) → rank d < rank c → step_of d.task ≡ step.Lookup → steps_left z u d < steps_left z t c
-rank-falls z t u c d lt e =
+wide : (n s : ℕ) → n * s + s < (n + 1) * (s + 1)
+wide n s = let all : (n + 1) * (s + 1) ≡ n * s + n + s + 1 = grind arith in omega (arith, all)
+
+-- some of the work is done, and the client is at a lookup: so many fewer steps are left that each client may take more
+pub rank-falls-far : (z : Sizes) (t u : Tables) (c d : SeenClient) → rank d < rank c → step_of d.task ≡ step.Lookup → steps_left z u d + z.clients * steps_from_lookup z < steps_left z t c
+rank-falls-far z t u c d lt e =
     let at = at-lookup z u d e in
-    rounds-fall (rank d) (rank c) (round z) (stage z (step_of d.task) + stale_steps z (is_fresh u d)) (stage z (step_of c.task) + stale_steps z (is_fresh t c)) lt (omega (arith, at))
+    let many = wide z.clients (steps_from_lookup z) in
+    let far = rounds-fall (rank d) (rank c) (round z) (z.clients * steps_from_lookup z + steps_from_lookup z) (stage z (step_of c.task) + stale_steps z (is_fresh t c)) lt many in
+    omega (arith, at, far)
+
+pub rank-falls : (z : Sizes) (t u : Tables) (c d : SeenClient) → rank d < rank c → step_of d.task ≡ step.Lookup → steps_left z u d < steps_left z t c
+rank-falls z t u c d lt e = let far = rank-falls-far z t u c d lt e in omega (arith, far)
 
 -- the work goes on
 pub stage-falls : (z : Sizes) (t : Tables) (c d : SeenClient) → rank d ≡ rank c
@@ -66,7 +74,7 @@ step-falls z t c d task new own is kept queue block lt =
     ap (λ (s : Step). stage z s + stale_steps z (is_fresh t d)) now ∙ ap (λ (b : Bool). stage z new + stale_steps z b) fresh in
     stage-falls z t c d ranks (omega (arith, left, lt))
 
-pub others-add : (z : Sizes) (t u : Tables) (c : SeenClient) → steps_left z u c < steps_left z t c + round z
+pub others-add : (z : Sizes) (t u : Tables) (c : SeenClient) → steps_left z u c ≤ steps_left z t c + steps_from_lookup z
 others-add z t u c =
     let most = at-most (is_fresh u c) in
     omega (arith, most) where

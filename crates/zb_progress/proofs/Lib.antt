@@ -1,5 +1,6 @@
 -- Lemmas on the steps that a client may still take.
 pub mod Falling
+pub mod Rising
 pub mod Versions
 pub mod Committing
 pub mod Stepping

@@ -44,7 +44,7 @@ use Rattle.zb_client_laws.proofs.Lasting.{looks_again, next_looks}
 use Rattle.zb_progress.specs.Fresh.{is_fresh, is_fresh_at}
 use Rattle.zb_progress.specs.Left.{rank, stage, stale_steps, steps_from_lookup, steps_left, work_rank}
 use Rattle.zb_progress.proofs.Committing.{some-op}
-use Rattle.zb_progress.proofs.Falling.{at-lookup, rank-falls, same-aim, stage-falls, step-falls}
+use Rattle.zb_progress.proofs.Falling.{at-lookup, rank-falls, rank-falls-far, same-aim, stage-falls, step-falls}
 
 -- what any work counts
 rank-most : (aim : Option Aim) → work_rank aim ≤ 2
@@ -212,7 +212,8 @@ some-kept [] some = some
 some-kept (call ∷ calls) some = omega arith
 
 module _ (w : Around) (seen : Tree) (c : SeenClient) (known : IsKnown c) (s : ClientIsSound w seen c) (basis : Basis) (sealed : Sealed) (e : step_of c.task ≡ step.Commit basis sealed) where
-  pub commit-falls : (replies : List Reply) (after : Tables) → length replies ≡ length sealed.batch.ops → steps_left w.z after (commits c replies).client < steps_left w.z w.tables c
+  pub commit-falls : (replies : List Reply) (after : Tables) → length replies ≡ length sealed.batch.ops
+      → steps_left w.z after (commits c replies).client + w.z.clients * steps_from_lookup w.z < steps_left w.z w.tables c
   commit-falls replies after count =
       let d = delivered w seen c s basis sealed e in
       let own : 1 ≤ length sealed.batch.ops =
@@ -221,5 +222,5 @@ module _ (w : Around) (seen : Tree) (c : SeenClient) (known : IsKnown c) (s : Cl
       let some = some-kept c.kept (omega (arith, own, fits)) in
       let fewer = length-drop (length replies) c.kept in
       let work = next-rank (aim_of c.task) (nat_lt 0 (length (drop (length replies) c.kept))) in
-      rank-falls w.z w.tables after c (commits c replies).client (omega (arith, own, some, fewer, work, count))
+      rank-falls-far w.z w.tables after c (commits c replies).client (omega (arith, own, some, fewer, work, count))
       (next_looks (aim_of c.task) (nat_lt 0 (length (drop (length replies) c.kept))))

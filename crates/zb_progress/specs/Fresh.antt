@@ -1,5 +1,7 @@
 -- Whether what a batch looked up is at the versions that the tables have now.
-use Rattle.std.specs.Prelude.{ℕ, ◌+◌, ◌≤◌, ◌<◌, Bool, true, false, ◌==◌, ◌&&◌, List, [], ◌∷◌, map, Option, Some, None}
+use Rattle.std.specs.Prelude.{ℕ, ◌+◌, ◌*◌, ◌≤◌, ◌<◌, Bool, true, false, ◌==◌, ◌&&◌, List, [], ◌∷◌, map, Option, Some, None}
+use Rattle.zb_types.specs.declared.tables.CommitFault.{CommitFault}
+use Rattle.zb_types.specs.declared.tables.CommitFault.TheVariants.{Regen, Stale, Worn, NoMemory, Stopped}
 use Rattle.zb_types.specs.declared.tables.Found.{Found}
 use Rattle.zb_types.specs.Limits.{most_kept}
 use Rattle.zb_tables.specs.Tables.{EachFile, Tables, last_value}
@@ -49,3 +51,16 @@ is_fresh t c = is_fresh_at t c.block c.kept (step_of c.task)
 pub record MayRise (t : Tables) : Type 0 where
   pub versions : EachFile (λ file. file.version + most_kept ≤ last_value) t.files
   pub entry : t.next_entry < last_value
+
+-- At most so many entries have raised the numbers of the tables, by one each, and by eight at most the version of a file.
+pub record RoseBy (entries : ℕ) (t : Tables) : Type 0 where
+  pub versions : EachFile (λ file. file.version ≤ most_kept * entries) t.files
+  pub entry : t.next_entry ≤ entries
+
+-- a batch is behind a version
+abbrev pub IsStale : CommitFault → Type 0
+IsStale (Stale fid seen now) = Unit {0}
+IsStale (Regen seen now) = ⊥
+IsStale (Worn field) = ⊥
+IsStale NoMemory = ⊥
+IsStale Stopped = ⊥

@@ -55,9 +55,9 @@ work_rank (Some Finish) = 2
 abbrev pub rank : SeenClient → ℕ
 rank c = 3 * length c.queue + length c.kept + work_rank (aim_of c.task)
 
--- more steps than are taken for one of them
+-- as many steps as one of them may cost: its own, and of each other client's those that its commit adds
 abbrev pub round : Sizes → ℕ
-round z = steps_from_lookup z + 1
+round z = (z.clients + 1) * (steps_from_lookup z + 1)
 
 -- a client takes at most so many steps before it is idle, if no other client's batch is committed
 abbrev pub steps_left : Sizes → Tables → SeenClient → ℕ

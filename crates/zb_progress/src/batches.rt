@@ -1,5 +1,6 @@
-ghost use Rattle.std.specs.Prelude.{◌≡◌, ◌≤◌, ℕ, true, false, None, Some};
+ghost use Rattle.std.specs.Prelude.{◌≡◌, ◌≤◌, ℕ, true, false, None, Some, length};
 ghost use Rattle.zb_types.specs.declared.tables.CommitFault.{CommitFault};
+ghost use Rattle.zb_types.specs.Limits.{most_kept};
 ghost use Rattle.zb_types.specs.Tree.{Tree};
 ghost use Rattle.zb_tables.specs.Tables.{last_value};
 ghost use Rattle.zb_tables.specs.Taking.{commit_refusal};
@@ -11,9 +12,10 @@ ghost use Rattle.zb_client.specs.Seen.{SeenClient};
 ghost use Rattle.zb_client_laws.specs.Around.{Around, IsAround};
 ghost use Rattle.zb_client_laws.specs.Known.{IsKnown};
 ghost use Rattle.zb_client_laws.specs.Sound.{ClientIsSound};
-ghost use Rattle.zb_progress.specs.Fresh.{MayRise, is_fresh};
+ghost use Rattle.zb_progress.specs.Fresh.{IsStale, MayRise, is_fresh};
 
-/// A batch whose lookups are at the versions that the tables have now is committed; and nothing but a version refuses one.
+/// A batch whose lookups are at the versions that the tables have now is committed; and nothing but a version refuses one,
+/// where no number of the tables is near its last value. A batch has at most eight operations.
 pub fn fresh_batches_are_committed()
     ensures fresh { (slots : ℕ) (w : Around) (seen : Tree) (c : SeenClient) (basis : Basis) (sealed : Sealed)
         → IsAround slots w → IsKnown c → ClientIsSound w seen c → step_of c.task ≡ step.Commit basis sealed
@@ -23,5 +25,7 @@ pub fn fresh_batches_are_committed()
         → IsAround slots w → IsKnown c → ClientIsSound w seen c → step_of c.task ≡ step.Commit basis sealed
         → MayRise w.tables → c.batch ≤ last_value
         → commit_refusal w.z.block w.tables sealed.batch sealed.placed.pieces sealed.members.generation ≡ Some fault
-        → is_fresh w.tables c ≡ false }
+        → IsStale fault × (is_fresh w.tables c ≡ false) }
+    ensures few { (w : Around) (seen : Tree) (c : SeenClient) (basis : Basis) (sealed : Sealed)
+        → ClientIsSound w seen c → step_of c.task ≡ step.Commit basis sealed → length sealed.batch.ops ≤ most_kept }
 {}

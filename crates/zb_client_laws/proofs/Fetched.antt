@@ -39,6 +39,7 @@ use Rattle.zb_client_laws.proofs.Blocks.{missing_each, there_filled}
 use Rattle.zb_client_laws.proofs.Caching.{put_each}
 use Rattle.zb_client_laws.proofs.Fetching.{all_bytes, gained_is, may_answer, more, told_from}
 use Rattle.zb_client_laws.proofs.Going.{goes_on, rest_sound}
+use Rattle.zb_client_laws.proofs.Telling.{step_told}
 use Rattle.zb_client_laws.proofs.Resting.{AtRest}
 use Rattle.zb_client_laws.proofs.Wanted.{wanted_lie}
 
@@ -121,8 +122,8 @@ module _ (slots : ℕ) (w : Around) (a : IsAround slots w) (seen : Tree) (c : Se
   abbrev Right : Heard → Type 0
   Right heard = ClientIsSound w seen heard.client × TellsRight seen c heard
 
-  silent_right : (h : SeenClient) (heard : Heard) → heard ≡ silent h → ClientIsSound w seen (silent h).client → Right heard
-  silent_right h heard is sound = (subst (λ (x : Heard). ClientIsSound w seen x.client) (sym is) sound, inl (ap (λ (x : Heard). x.told) is))
+  silent_right : (st : Step) (heard : Heard) → heard ≡ silent (at_step c st) → ClientIsSound w seen (silent (at_step c st)).client → Right heard
+  silent_right st heard is sound = (subst (λ (x : Heard). ClientIsSound w seen x.client) (sym is) sound, inl (step_told c st heard is))
 
   step_is : (st : Step) → step_of (with_step st c.task) ≡ st
   step_is st = ap (λ (t : Option Task). step_of (with_step st t)) of.is
@@ -179,9 +180,10 @@ module _ (slots : ℕ) (w : Around) (a : IsAround slots w) (seen : Tree) (c : Se
         (slots_filled (room_of c.servers c.fragment) (wanted_for c.block c.kept c.queue basis.found) basis.fetched at ptr bytes fits.0.rests.slots fits.0.missing long) heard on in
         (right.0, as_before right.1) where
           as_before : TellsRight seen Cached heard → TellsRight seen c heard
-          as_before (inl none) = inl none
-          as_before (inr (d, r)) = inr (d, record { reply = r.reply; right = r.right; is = r.is })
-    whole_by heard false e on = silent_right (at_step c step.Lookup) heard on anew
+          as_before (inl none) = inl (record { told = none.told; same = record { client = none.same.client; kept = none.same.kept; queue = none.same.queue; aim = none.same.aim } })
+          as_before (inr (d, r)) =
+              inr (d, record { reply = r.reply; right = r.right; none_kept = r.none_kept; same = record { client = r.same.client; kept = r.same.kept; queue = r.same.queue; aim = r.same.aim }; is = r.is })
+    whole_by heard false e on = silent_right step.Lookup heard on anew
 
   -- ---- by what was told
 
@@ -191,14 +193,14 @@ module _ (slots : ℕ) (w : Around) (a : IsAround slots w) (seen : Tree) (c : Se
   bytes_by : (bytes : List ℕ) (serving : ℕ) (heard : Heard) (from : AnswersFrom w.st.maps None None (asked plan) (told.Bytes bytes)) (t : Bool)
       → nat_lt (pos_of (advanced plan bytes)) (end_of (advanced plan bytes)) ≡ t
       → Hears serving (advanced plan bytes, if t then got.More else got.Bytes (advanced plan bytes).read) heard → Right heard
-  bytes_by bytes serving heard from true e h = silent_right (at_step c (step.Fetch basis at ptr (advanced plan bytes))) heard h (reads_on (advanced plan bytes) (more slots w a ptr plan reading bytes from e))
+  bytes_by bytes serving heard from true e h = silent_right (step.Fetch basis at ptr (advanced plan bytes)) heard h (reads_on (advanced plan bytes) (more slots w a ptr plan reading bytes from e))
   bytes_by bytes serving heard from false e h =
       whole_by (advanced plan bytes).read (all_bytes slots w a ptr plan reading bytes from e) heard (is_whole ptr (advanced plan bytes).read) refl h
 
   gone_by : (serving : ℕ) (heard : Heard) (g : Got) → (g ≡ got.Gone) ⊎ ((g ≡ got.More) ⊎ ((now : ℕ) × (g ≡ got.Old now))) → Hears serving (plan, g) heard → Right heard
-  gone_by serving heard g (inl e) h = silent_right (at_step c step.Lookup) heard (subst (λ (x : Got). Hears serving (plan, x) heard) e h) anew
-  gone_by serving heard g (inr (inl e)) h = silent_right (at_step c (step.Fetch basis at ptr plan)) heard (subst (λ (x : Got). Hears serving (plan, x) heard) e h) (reads_on plan reading)
-  gone_by serving heard g (inr (inr (now, e))) h = silent_right (at_step c step.Lookup) heard (subst (λ (x : Got). Hears serving (plan, x) heard) e h) anew
+  gone_by serving heard g (inl e) h = silent_right step.Lookup heard (subst (λ (x : Got). Hears serving (plan, x) heard) e h) anew
+  gone_by serving heard g (inr (inl e)) h = silent_right (step.Fetch basis at ptr plan) heard (subst (λ (x : Got). Hears serving (plan, x) heard) e h) (reads_on plan reading)
+  gone_by serving heard g (inr (inr (now, e))) h = silent_right step.Lookup heard (subst (λ (x : Got). Hears serving (plan, x) heard) e h) anew
 
   -- what a response comes to where the range itself is asked
   abbrev Direct_fed : Response → Reading × Got

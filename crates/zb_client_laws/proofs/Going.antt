@@ -50,6 +50,7 @@ use Rattle.zb_client.specs.Wishing.{head_of}
 use Rattle.zb_client_laws.specs.Around.{Around, IsAround}
 use Rattle.zb_client_laws.specs.Current.{BatchIsCurrent, FirstIsCurrent, IsReading, RestsOnHeld, ShowsFound, WorkIsCurrent}
 use Rattle.zb_client_laws.specs.Effects.{IsReplyIn, TellsRight}
+use Rattle.zb_client_laws.proofs.Telling.{same_self, step_told, step_with_log}
 use Rattle.zb_client_laws.specs.Logging.{HasPhase, IsDelivering, RestsAt, WasFormed, delivers}
 use Rattle.zb_client_laws.specs.Sound.{ClientIsSound, StepIsCurrent}
 use Rattle.zb_client_laws.proofs.Blocks.{all_there, missing_each}
@@ -226,28 +227,30 @@ module _ (slots : ℕ) (w : Around) (a : IsAround slots w) (seen : Tree) (c : Se
   abbrev Right : Heard → Type 0
   Right heard = ClientIsSound w seen heard.client × TellsRight seen c heard
 
-  first_replied : (queue : List Numbered) (heard : Heard) → c.queue ≡ queue → next_missing basis.fetched ≡ None → FirstIsCurrent w.z.block w.contents w.tables seen queue basis
+  first_replied : (queue : List Numbered) (heard : Heard) → c.kept ≡ [] → c.queue ≡ queue → next_missing basis.fetched ≡ None → FirstIsCurrent w.z.block w.contents w.tables seen queue basis
       → RepliesFirst c basis queue heard → Right heard
-  first_replied [] heard e none f h = absurd h
-  first_replied (read ∷ rest) heard e none f h =
+  first_replied [] heard k e none f h = absurd h
+  first_replied (read ∷ rest) heard k e none f h =
       let right = shown_reply read.call basis.found h.reply refl none f.shows (subst (λ (b : ℕ). IsReadReply b basis read.call h.reply) r.sizes.block h.right) in (
         subst (λ (x : Heard). ClientIsSound w seen x.client) (sym h.is) (answered_sound w seen c r c.queue (said.Reply h.reply) r.short_queue),
-        inr (c, record { reply = h.reply; right = subst (λ (q : List Numbered). IsReplyIn seen q h.reply) (sym e) right; is = h.is }),
+        inr (c, record { reply = h.reply; right = subst (λ (q : List Numbered). IsReplyIn seen q h.reply) (sym e) right; none_kept = k; same = same_self c; is = h.is }),
       )
 
   all_had : (kept : List Numbered) (heard : Heard) → c.kept ≡ kept → next_missing basis.fetched ≡ None → WorkIsCurrent w.z.block w.contents w.tables seen kept c.queue basis
       → HasAll c basis kept heard → Right heard
-  all_had [] heard e none h all = first_replied c.queue heard refl none h all
+  all_had [] heard e none h all = first_replied c.queue heard e refl none h all
   all_had (first ∷ others) heard e none h all =
       let batch = subst (λ (k : List Numbered). BatchIsCurrent w.z.block w.contents w.tables (run_of k) basis) (sym e) h in (
         subst (λ (x : Heard). ClientIsSound w seen x.client) (sym all.is) (store_sound all.formed all.is_formed batch none),
-        inl (ap (λ (x : Heard). x.told) all.is),
+        inl (step_with_log c (log_for c basis) (step.Store basis all.formed) heard all.is),
       )
 
   goes_at : (missing : Option (ℕ × Ptr)) (heard : Heard) → next_missing basis.fetched ≡ missing → GoesOnAt c basis missing heard → Right heard
   goes_at None heard e on = all_had c.kept heard refl e current on
-  goes_at (Some (at, ptr)) heard e on =
-      (subst (λ (x : Heard). ClientIsSound w seen x.client) (sym on) (fetch_sound at ptr e), inl (ap (λ (x : Heard). x.told) on))
+  goes_at (Some (at, ptr)) heard e on = (
+    subst (λ (x : Heard). ClientIsSound w seen x.client) (sym on) (fetch_sound at ptr e),
+    inl (step_told c (step.Fetch basis at ptr (start c.servers c.fragment ptr (readers_out (first_members basis.found).state))) heard on),
+  )
 
   pub goes_on : (heard : Heard) → GoesOn c basis heard → Right heard
   goes_on heard on = goes_at (next_missing basis.fetched) heard refl on

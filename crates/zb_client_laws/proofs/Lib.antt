@@ -1,5 +1,6 @@
 -- Lemmas on the clients of a sound world.
 pub mod Missing
+pub mod Telling
 pub mod Moving
 pub mod Others
 pub mod Moves

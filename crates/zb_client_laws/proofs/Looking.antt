@@ -56,6 +56,7 @@ use Rattle.zb_client_laws.specs.Sound.{ClientIsSound}
 use Rattle.zb_client_laws.proofs.Blocks.{there_cached}
 use Rattle.zb_client_laws.proofs.Caching.{asked_each}
 use Rattle.zb_client_laws.proofs.Going.{answered_sound, goes_on}
+use Rattle.zb_client_laws.proofs.Telling.{same_self}
 use Rattle.zb_client_laws.proofs.Resting.{AtRest}
 use Rattle.zb_client_laws.proofs.Tabled.{lie_all, may_all, tabled}
 use Rattle.zb_client_laws.proofs.Wanted.{wanted_lie}
@@ -296,8 +297,9 @@ module _ (slots : ℕ) (w : Around) (a : IsAround slots w) where
             let right = goes_on slots w a w.tree Asked rest_asked task is_task Looked (looks.current Looked refl held) held slot heard on in
             (right.0, as_before right.1) where
               as_before : TellsRight w.tree Asked heard → TellsRight w.tree c heard
-              as_before (inl none) = inl none
-              as_before (inr (d, r)) = inr (d, record { reply = r.reply; right = r.right; is = r.is })
+              as_before (inl none) = inl (record { told = none.told; same = record { client = none.same.client; kept = none.same.kept; queue = none.same.queue; aim = none.same.aim } })
+              as_before (inr (d, r)) =
+                  inr (d, record { reply = r.reply; right = r.right; none_kept = r.none_kept; same = record { client = r.same.client; kept = r.same.kept; queue = r.same.queue; aim = r.same.aim }; is = r.is })
 
     -- ---- a read of names
 
@@ -322,9 +324,22 @@ module _ (slots : ℕ) (w : Around) (a : IsAround slots w) where
       kept_named [] n = first_named c.queue n
       kept_named (first ∷ others) n = absurd n
 
+      none_named : (kept : List Numbered) → IsNamed (lookup_of c task.tries kept) call → kept ≡ []
+      none_named [] n = refl
+      none_named (first ∷ others) n = absurd n
+
       pub named_sound : (heard : Heard) → lookup_of c task.tries c.kept ≡ Names call → heard ≡ answers_read c (said.Reply reply)
           → ClientIsSound w seen heard.client × TellsRight w.tree c heard
       named_sound heard e is = (
         subst (λ (x : Heard). ClientIsSound w seen x.client) (sym is) (answered_sound w seen c rest c.queue (said.Reply reply) s.short_queue),
-        inr (c, record { reply = reply; right = kept_named c.kept (named_is (lookup_of c task.tries c.kept) call e); is = is }),
+        inr (
+          c,
+          record {
+            reply = reply;
+            right = kept_named c.kept (named_is (lookup_of c task.tries c.kept) call e);
+            none_kept = none_named c.kept (named_is (lookup_of c task.tries c.kept) call e);
+            same = same_self c;
+            is = is;
+          },
+        ),
       )

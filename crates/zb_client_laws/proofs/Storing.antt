@@ -38,13 +38,13 @@ use Rattle.zb_work.specs.declared.work.Step.{Step}
 use Rattle.zb_work.specs.declared.work.Step.TheVariants as step
 use Rattle.zb_work.specs.declared.work.Task.{Task}
 use Rattle.zb_work.specs.Steps.{first_members, step_of, with_step}
-use Rattle.zb_client.specs.declared.steps.Told.TheVariants as says
 use Rattle.zb_client.specs.Seen.{SeenClient}
 use Rattle.zb_client.specs.Hearing.{first_stripe, goes_on_storing, left, notes}
-use Rattle.zb_client.specs.Telling.{Heard, answers_first, gives_up_aim, gives_up_for}
+use Rattle.zb_client.specs.Telling.{Heard, answers_first, gives_up, gives_up_aim, gives_up_for}
 use Rattle.zb_client.specs.Wishing.{head_of}
 use Rattle.zb_client_laws.specs.Around.{Around, IsAround, at_rest}
-use Rattle.zb_client_laws.specs.Effects.{after_request}
+use Rattle.zb_client_laws.specs.Effects.{GivesUp, TellsNothing, after_request}
+use Rattle.zb_client_laws.proofs.Telling.{aim_same}
 use Rattle.zb_client_laws.specs.Logging.{HasPhase, IsDelivered, IsDelivering, delivers, flush_of}
 use Rattle.zb_client_laws.specs.Sound.{ClientIsSound, StepIsCurrent}
 use Rattle.zb_client_laws.proofs.Missing.{none_misses}
@@ -200,15 +200,19 @@ module _ (w : Around) (seen : Tree) (c : SeenClient) (s : ClientIsSound w seen c
 
       -- the client stays sound, and tells nothing
       abbrev Goes : Heard → Type 0
-      Goes heard = ClientIsSound (after_request w asked) seen heard.client × (heard.told ≡ says.Nothing)
+      Goes heard = ClientIsSound (after_request w asked) seen heard.client × TellsNothing c heard
 
       done_by_plan : (plan : Requests) → formed.plan ≡ plan → Goes (goes_on_storing (notes c formed (fed_by plan told.Done)) basis formed told.Done (fed_by plan told.Done))
       done_by_plan [] plan = absurd (none-some asked (subst (λ (rs : Requests). slice_get rs 0 ≡ Some asked) plan is))
-      done_by_plan (q ∷ []) plan =
-          (stored_sound (after_asked w.st asked) Front (omega arith) (subst (λ (rs : Requests). StandsAt (after_asked w.st asked) Front (left_after rs told.Done)) plan went_on), refl)
+      done_by_plan (q ∷ []) plan = (
+        stored_sound (after_asked w.st asked) Front (omega arith) (subst (λ (rs : Requests). StandsAt (after_asked w.st asked) Front (left_after rs told.Done)) plan went_on),
+        record { told = refl; same = record { client = refl; kept = refl; queue = refl; aim = aim_same (step.Commit basis formed.sealed) c.task } },
+      )
       done_by_plan (p ∷ (q ∷ rest)) plan =
-          let same : p ≡ asked = same_Some p asked (subst (λ (rs : Requests). slice_get rs 0 ≡ Some asked) plan is) in
-          (more_sound q rest (plan ∙ ap (λ (x : ServerId × Request). x ∷ (q ∷ rest)) same), refl)
+          let same : p ≡ asked = same_Some p asked (subst (λ (rs : Requests). slice_get rs 0 ≡ Some asked) plan is) in (
+            more_sound q rest (plan ∙ ap (λ (x : ServerId × Request). x ∷ (q ∷ rest)) same),
+            record { told = refl; same = record { client = refl; kept = refl; queue = refl; aim = aim_same (step.Store basis (left formed told.Done)) c.task } },
+          )
 
       pub done_sound : Goes (goes_on_storing (notes c formed (fed_by formed.plan told.Done)) basis formed told.Done (fed_by formed.plan told.Done))
       done_sound = done_by_plan formed.plan refl
@@ -266,3 +270,17 @@ module _ (w : Around) (seen : Tree) (c : SeenClient) (s : ClientIsSound w seen c
 
     pub full_sound : (free : ℕ) → ClientIsSound w seen (goes_on_storing (notes c formed (fed_by formed.plan (NoSlot free))) basis formed (NoSlot free) (fed_by formed.plan (NoSlot free))).client
     full_sound free = full_by_plan free formed.plan refl
+
+    told_by_plan : (free : ℕ) (asked : ServerId × Request) (plan : Requests) → slice_get plan 0 ≡ Some asked
+        → GivesUp c (NoSpace asked.0) (goes_on_storing (notes c formed (fed_by plan (NoSlot free))) basis formed (NoSlot free) (fed_by plan (NoSlot free)))
+    told_by_plan free asked [] is = absurd (none-some asked is)
+    told_by_plan free asked (p ∷ rest) is = record {
+      noted = notes c formed (fed_by (p ∷ rest) (NoSlot free));
+      same = record { client = refl; kept = refl; queue = refl; aim = refl };
+      task = refl;
+      is = ap (λ (q : ServerId × Request). gives_up (notes c formed (fed_by (p ∷ rest) (NoSlot free))) (NoSpace q.0)) (same_Some p asked is);
+    }
+
+    pub full_told : (free : ℕ) (asked : ServerId × Request) → slice_get formed.plan 0 ≡ Some asked
+        → GivesUp c (NoSpace asked.0) (goes_on_storing (notes c formed (fed_by formed.plan (NoSlot free))) basis formed (NoSlot free) (fed_by formed.plan (NoSlot free)))
+    full_told free asked is = told_by_plan free asked formed.plan is

@@ -5,6 +5,7 @@ use Rattle.zb_types.specs.declared.calls.Reply.{Reply}
 use Rattle.zb_types.specs.declared.ids.Piece.{Piece}
 use Rattle.zb_types.specs.declared.ids.ServerId.{ServerId}
 use Rattle.zb_types.specs.declared.lines.Said.TheVariants as said
+use Rattle.zb_types.specs.declared.nodes.Cause.{Cause}
 use Rattle.zb_types.specs.declared.requests.Request.{Request}
 use Rattle.zb_types.specs.declared.tables.Found.{Found}
 use Rattle.zb_types.specs.Apply.{reply_to}
@@ -21,9 +22,10 @@ use Rattle.zb_sound.specs.Committing.{AreInFlush}
 use Rattle.zb_sound.specs.Delivering.{PartFits, after_asked, with_parts}
 use Rattle.zb_basis.specs.declared.asks.Ask.{Ask}
 use Rattle.zb_basis.specs.declared.calls.Numbered.{Numbered}
+use Rattle.zb_work.specs.Steps.{aim_of}
 use Rattle.zb_client.specs.Seen.{SeenClient}
 use Rattle.zb_client.specs.declared.steps.Told.TheVariants as told
-use Rattle.zb_client.specs.Telling.{Heard, answers_read}
+use Rattle.zb_client.specs.Telling.{Heard, answers_read, gives_up}
 use Rattle.zb_client_laws.specs.Around.{Around}
 
 -- one server has carried out a request
@@ -57,12 +59,33 @@ abbrev pub IsReplyIn : Tree → List Numbered → Reply → Type 0
 IsReplyIn seen [] reply = ⊥
 IsReplyIn seen (read ∷ rest) reply = reply ≡ reply_to seen read.call
 
--- the read at work was answered, as this tree answers it
+-- a step leaves the client's number, its calls, and what its work is for
+pub record SameCalls (old new : SeenClient) : Type 0 where
+  pub client : new.client ≡ old.client
+  pub kept : new.kept ≡ old.kept
+  pub queue : new.queue ≡ old.queue
+  pub aim : aim_of new.task ≡ aim_of old.task
+
+-- the read at work was answered, as this tree answers it; nothing was kept before it
 pub record AnswersRead (seen : Tree) (c before : SeenClient) (heard : Heard) : Type 0 where
   pub reply : Reply
   pub right : IsReplyIn seen before.queue reply
+  pub none_kept : before.kept ≡ []
+  pub same : SameCalls before c
   pub is : heard ≡ answers_read c (said.Reply reply)
+
+-- a step tells nothing, and leaves the calls
+pub record TellsNothing (before : SeenClient) (heard : Heard) : Type 0 where
+  pub told : heard.told ≡ told.Nothing
+  pub same : SameCalls before heard.client
 
 -- A step tells nothing, or the reply of this tree to the first queued call.
 abbrev pub TellsRight : Tree → SeenClient → Heard → Type 0
-TellsRight seen before heard = (heard.told ≡ told.Nothing) ⊎ ((c : SeenClient) × AnswersRead seen c before heard)
+TellsRight seen before heard = TellsNothing before heard ⊎ ((c : SeenClient) × AnswersRead seen c before heard)
+
+-- a step gives the client's work up for this cause: the client, which has noted what it heard, has its calls and its task
+pub record GivesUp (c : SeenClient) (cause : Cause) (heard : Heard) : Type 0 where
+  pub noted : SeenClient
+  pub same : SameCalls c noted
+  pub task : noted.task ≡ c.task
+  pub is : heard ≡ gives_up noted cause

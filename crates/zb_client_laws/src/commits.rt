@@ -14,7 +14,7 @@ ghost use Rattle.zb_work.specs.Steps.{step_of};
 ghost use Rattle.zb_client.specs.Seen.{SeenClient};
 ghost use Rattle.zb_client.specs.Hearing.{commits, hears_outdated};
 ghost use Rattle.zb_client_laws.specs.Around.{Around, IsAround};
-ghost use Rattle.zb_client_laws.specs.Effects.{IsCommit, after_commit};
+ghost use Rattle.zb_client_laws.specs.Effects.{IsCommit, TellsNothing, after_commit};
 ghost use Rattle.zb_client_laws.specs.Known.{IsKnown};
 ghost use Rattle.zb_client_laws.specs.Sound.{ClientIsSound};
 
@@ -36,5 +36,5 @@ pub fn commits_are_sound()
         × ClientIsSound (after_commit w flush c.batch sealed.placed.pieces after (tree_through w.tree (updates_of (run_of c.kept)))) seen (commits c after.replies).client }
     ensures outdated { (w : Around) (seen : Tree) (c : SeenClient) (basis : Basis) (sealed : Sealed) (fault : CommitFault)
         → ClientIsSound w seen c → step_of c.task ≡ step.Commit basis sealed
-        → ClientIsSound w seen (hears_outdated c fault).client }
+        → ClientIsSound w seen (hears_outdated c fault).client × TellsNothing c (hears_outdated c fault) }
 {}

@@ -97,7 +97,7 @@ replies_batch given lines client (did ∷ batch) kept taken lined g s updates re
     greater le = omega (arith, le)
 
 -- a finish that began has begun
-over_longer : (lines more : List Outcome) (finishes : List ℕ) → list_any (λ at. nat_le at (length lines)) finishes ≡ true → list_any (λ at. nat_le at (length (lines ++ more))) finishes ≡ true
+pub over_longer : (lines more : List Outcome) (finishes : List ℕ) → list_any (λ at. nat_le at (length lines)) finishes ≡ true → list_any (λ at. nat_le at (length (lines ++ more))) finishes ≡ true
 over_longer lines more [] h = no h
 over_longer lines more (at ∷ finishes) h = elim (or_cases (nat_le at (length lines)) (list_any (λ k. nat_le k (length lines)) finishes) h) as (λ _. list_any (λ k. nat_le k (length (lines ++ more))) (at ∷ finishes) ≡ true) [
   | inl e ↦ or_left (nat_le at (length (lines ++ more))) (list_any (λ k. nat_le k (length (lines ++ more))) finishes) (nat_le_yes at (length (lines ++ more)) (omega (arith, nat_le_is at (length lines) e, length-append lines more)))

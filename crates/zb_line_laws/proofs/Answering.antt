@@ -1,7 +1,6 @@
 -- A read is answered, and work that can't go on is given up.
-use Rattle.std.proofs.Common.{◌≡◌, ℕ, suc, ◌+◌, true, false, List, [], ◌∷◌, ◌++◌, length, Option, Some, refl, sym, ap, ◌∙◌, subst, arith}
-use Rattle.std.specs.Prelude.{nat_le, take}
-use Rattle.std.specs.List.{list_any}
+use Rattle.std.proofs.Common.{◌≡◌, ℕ, suc, ◌+◌, true, false, List, [], ◌∷◌, ◌++◌, length, Option, Some, refl, sym, ap, ◌∙◌, subst, arith, None}
+use Rattle.std.specs.Prelude.{take}
 use Rattle.zb_types.specs.Apply.{is_update, reply_to}
 use Rattle.zb_types.specs.declared.calls.Call.{Call}
 use Rattle.zb_types.specs.declared.calls.Reply.{Reply}
@@ -25,9 +24,11 @@ use Rattle.zb_basis.specs.declared.calls.Numbered.{Numbered}
 use Rattle.zb_work.specs.declared.work.Aim.{Aim}
 use Rattle.zb_work.specs.declared.work.Aim.TheVariants.{Update, Read, Finish}
 use Rattle.zb_work.specs.declared.work.Task.{Task}
+use Rattle.zb_work.specs.Fitting.{AimFits}
 use Rattle.zb_work.specs.Steps.{aim_of}
 use Rattle.zb_client.specs.Seen.{SeenClient}
 use Rattle.zb_client.specs.Telling.{answers_first, answers_read, ends_all as all_ended, gives_up, gives_up_aim, gives_up_for, unfinished_lines}
+use Rattle.zb_line_laws.proofs.Taking.{no_work}
 use Rattle.zb_line_laws.specs.Calls.{AimHas, AreGivenBehind, FitsAfter, HasItsCalls, IsCalm, numbers_of}
 
 take-none : (xs : List Numbered) → take 0 xs ≡ []
@@ -43,10 +44,7 @@ module _ (given : Given) (lines : List Outcome) (c : SeenClient) (fit : FitGiven
   Nums = numbers_of c.kept
 
   -- a read is answered
-  module _ (reads : aim_of c.task ≡ Some Read) (read : Numbered) (rest : List Numbered) (queue : c.queue ≡ read ∷ rest) where
-    lined_is : h.lined ≡ h.taken
-    lined_is = subst (λ (a : Option Aim). AimHas a h.taken h.lined) reads h.work
-
+  module _ (lined_is : h.lined ≡ h.taken) (read : Numbered) (rest : List Numbered) (queue : c.queue ≡ read ∷ rest) where
     stand : CallsStand given lines c.client Nums h.taken h.taken
     stand = subst (λ (n : ℕ). CallsStand given lines c.client Nums h.taken n) lined_is h.stand
 
@@ -74,6 +72,7 @@ module _ (given : Given) (lines : List Outcome) (c : SeenClient) (fit : FitGiven
       queue = subst (λ (n : ℕ). AreGivenBehind given c.client n rest) (let e : h.taken + 1 ≡ suc h.taken = omega arith in e) behind.2;
       all = let e : h.taken + suc (length rest) ≡ length (calls_of given c.client) = all in omega (arith, e);
       work = refl;
+      finishing = λ e. absurd (no_work e);
     }
 
     answered : (what : Said) → FitWith given lines c.client read.number what → is_final what ≡ true → FitsAfter given lines (answers_read c what)
@@ -126,16 +125,17 @@ module _ (given : Given) (lines : List Outcome) (c : SeenClient) (fit : FitGiven
         queue = subst (λ (n : ℕ). AreGivenBehind given c.client n c.queue) taken_is h.queue;
         all = subst (λ (n : ℕ). n + length c.queue ≡ length (calls_of given c.client)) taken_is h.all;
         work = refl;
+        finishing = λ e. absurd (no_work e);
       },
     )
 
   -- a finish can't go on
-  module _ (finishes : aim_of c.task ≡ Some Finish) (over : list_any (λ at. nat_le at (length lines)) given.finishes ≡ true) (cause : Cause) where
+  module _ (finishes : aim_of c.task ≡ Some Finish) (cause : Cause) where
     all_lined : h.lined ≡ h.taken
     all_lined = subst (λ (a : Option Aim). AimHas a h.taken h.lined) finishes h.work
 
     ended : AllUnfinished given lines c.client cause Nums h.taken
-    ended = ends_all given lines c.client cause Nums h.taken fit (subst (λ (n : ℕ). CallsStand given lines c.client Nums h.taken n) all_lined h.stand) over
+    ended = ends_all given lines c.client cause Nums h.taken fit (subst (λ (n : ℕ). CallsStand given lines c.client Nums h.taken n) all_lined h.stand) (h.finishing finishes)
 
     abbrev Left : List Numbered → List Outcome → Type 0
     Left kept more = FitGiven given (lines ++ more) × HasItsCalls given (lines ++ more) (record (all_ended c cause).client { kept = kept })
@@ -151,6 +151,7 @@ module _ (given : Given) (lines : List Outcome) (c : SeenClient) (fit : FitGiven
         queue = h.queue;
         all = h.all;
         work = refl;
+        finishing = λ e. absurd (no_work e);
       },
     )
 
@@ -158,6 +159,21 @@ module _ (given : Given) (lines : List Outcome) (c : SeenClient) (fit : FitGiven
     finished settled =
         subst (λ (kept : List Numbered). Left kept (unfinished_lines c.client cause c.kept)) (sym (ap (λ (n : ℕ). take n c.kept) settled ∙ take-none c.kept))
         (subst (Left []) (sym (lines_same c.client cause c.kept)) left)
+
+-- where nothing is kept, no commit is at work
+all_have : (aim : Option Aim) (calls queue : List Numbered) (taken lined : ℕ) → calls ≡ [] → AimFits calls queue aim → AimHas aim taken lined → lined ≡ taken
+all_have None calls queue taken lined none fits h = h
+all_have (Some (Update number)) [] queue taken lined none fits h = absurd (cc fits)
+all_have (Some (Update number)) (k ∷ ks) queue taken lined none fits h = absurd (cc none)
+all_have (Some Read) calls queue taken lined none fits h = h
+all_have (Some Finish) calls queue taken lined none fits h = h
+
+pub read_replied : (given : Given) (lines : List Outcome) (c : SeenClient) (read : Numbered) (rest : List Numbered) (at : ℕ) (reply : Reply)
+    → FitGiven given lines → HasItsCalls given lines c → IsCalm lines → AimFits c.kept c.queue (aim_of c.task) → c.queue ≡ read ∷ rest → c.kept ≡ []
+    → IsLookedUp given lines c.client (record { number = read.number; at = at }) read.call
+    → reply ≡ reply_to (tree_seen given lines (record { number = read.number; at = at })) read.call → FitsAfter given lines (answers_read c (said.Reply reply))
+read_replied given lines c read rest at reply fit h calm aim queue none looked same =
+    replied given lines c fit h (all_have (aim_of c.task) c.kept c.queue h.taken h.lined none aim h.work) read rest queue at reply none calm looked same
 
 -- ---- the work that is given up
 
@@ -171,11 +187,10 @@ pub given_up_read : (given : Given) (lines : List Outcome) (c : SeenClient) (tas
     → FitGiven given lines → HasItsCalls given lines c → c.task ≡ Some task → task.aim ≡ Read → c.queue ≡ read ∷ rest → is_update read.call ≡ false → FitsAfter given lines (gives_up c cause)
 given_up_read given lines c task read rest cause fit h is aim queue reads =
     subst (λ (t : Option Task). FitsAfter given lines (gives_up_for c t cause)) (sym is)
-    (subst (λ (a : Aim). FitsAfter given lines (gives_up_aim c a cause)) (sym aim) (failed given lines c fit h (ap aim_of is ∙ ap Some aim) read rest queue cause reads))
+    (subst (λ (a : Aim). FitsAfter given lines (gives_up_aim c a cause)) (sym aim) (failed given lines c fit h (subst (λ (a : Option Aim). AimHas a h.taken h.lined) (ap aim_of is ∙ ap Some aim) h.work) read rest queue cause reads))
 
 pub given_up_finish : (given : Given) (lines : List Outcome) (c : SeenClient) (task : Task) (cause : Cause)
-    → FitGiven given lines → HasItsCalls given lines c → c.task ≡ Some task → task.aim ≡ Finish → c.doubted ≡ 0
-    → list_any (λ at. nat_le at (length lines)) given.finishes ≡ true → FitsAfter given lines (gives_up c cause)
-given_up_finish given lines c task cause fit h is aim settled over =
+    → FitGiven given lines → HasItsCalls given lines c → c.task ≡ Some task → task.aim ≡ Finish → c.doubted ≡ 0 → FitsAfter given lines (gives_up c cause)
+given_up_finish given lines c task cause fit h is aim settled =
     subst (λ (t : Option Task). FitsAfter given lines (gives_up_for c t cause)) (sym is)
-    (subst (λ (a : Aim). FitsAfter given lines (gives_up_aim c a cause)) (sym aim) (finished given lines c fit h (ap aim_of is ∙ ap Some aim) over cause settled))
+    (subst (λ (a : Aim). FitsAfter given lines (gives_up_aim c a cause)) (sym aim) (finished given lines c fit h (ap aim_of is ∙ ap Some aim) cause settled))

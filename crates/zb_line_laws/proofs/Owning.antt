@@ -1,14 +1,16 @@
 -- The lines that a client tells are its own.
 use Rattle.std.proofs.Common.{◌≡◌, ℕ, Bool, true, false, List, [], ◌∷◌, ◌++◌, Option, Some, None, refl, ap, ◌∙◌}
 use Rattle.std.specs.Prelude.{◌==◌, ◌||◌, ◌&&◌, if◌then◌else◌, length, nat_lt}
-use Rattle.std.specs.List.{list_any}
+use Rattle.std.specs.List.{list_any, AllByRecursion}
 use Rattle.zb_types.specs.Apply.{is_bufferable, is_update}
 use Rattle.zb_types.specs.Limits.{most_kept}
 use Rattle.zb_types.specs.declared.calls.Reply.{Reply}
 use Rattle.zb_types.specs.declared.lines.Outcome.{Outcome}
+use Rattle.zb_types.specs.declared.lines.Outcome.TheVariants.{Call as CallLine}
 use Rattle.zb_types.specs.declared.lines.Said.{Said}
 use Rattle.zb_types.specs.declared.lines.Said.TheVariants as said
 use Rattle.zb_types.specs.declared.nodes.Cause.{Cause}
+use Rattle.zb_laws.proofs.Tests.{equals}
 use Rattle.zb_claims.specs.Points.{is_of_client}
 use Rattle.zb_basis.specs.declared.calls.Numbered.{Numbered}
 use Rattle.zb_work.specs.declared.work.Aim.{Aim}
@@ -63,14 +65,57 @@ module _ (c : SeenClient) (other : ℕ) (not_it : (other == c.client) ≡ false)
   work_given_up None cause = refl
   work_given_up (Some task) cause = aim_given_up task.aim cause
 
+-- a line of a call of this client
+abbrev IsOwn : ℕ → List Outcome → Type 0
+IsOwn client lines = AllByRecursion (λ line. is_of_client client line ≡ true) lines
+
+own_one : (client number : ℕ) (what : Said) → IsOwn client (CallLine client number what ∷ [])
+own_one client number what = (equals client, tt)
+
+own_unfinished : (client : ℕ) (cause : Cause) (calls : List Numbered) → IsOwn client (unfinished_lines client cause calls)
+own_unfinished client cause [] = tt
+own_unfinished client cause (k ∷ ks) = (equals client, own_unfinished client cause ks)
+
+own_replied : (client : ℕ) (calls : List Numbered) (replies : List Reply) → IsOwn client (reply_lines client calls replies)
+own_replied client (k ∷ ks) (reply ∷ replies) = (equals client, own_replied client ks replies)
+own_replied client [] replies = tt
+own_replied client (k ∷ ks) [] = tt
+
+own_kept : (d : SeenClient) (call : Numbered) (test : Bool)
+    → IsOwn d.client (lines_in (if test then tells d (line d call.number said.Buffered ∷ []) else silent (record d { task = new_task (Update call.number) })).told)
+own_kept d call true = own_one d.client call.number said.Buffered
+own_kept d call false = tt
+
+own_taken : (c : SeenClient) (call : Numbered) (rest : List Numbered) (update : Bool)
+    → IsOwn c.client (lines_in (if update then keeps (record c { kept = c.kept ++ call ∷ []; queue = rest }) call else silent (record c { task = new_task Read })).told)
+own_taken c call rest true = own_kept (record c { kept = c.kept ++ call ∷ []; queue = rest }) call (is_bufferable call.call && nat_lt (length (c.kept ++ call ∷ [])) most_kept)
+own_taken c call rest false = tt
+
+own_first : (c : SeenClient) (queue : List Numbered) → IsOwn c.client (lines_in (takes_first c queue).told)
+own_first c [] = tt
+own_first c (call ∷ rest) = own_taken c call rest (is_update call.call)
+
+own_answered : (c : SeenClient) (queue : List Numbered) (what : Said) → IsOwn c.client (lines_in (answers_first c queue what).told)
+own_answered c [] what = tt
+own_answered c (read ∷ rest) what = own_one c.client read.number what
+
+own_aim : (c : SeenClient) (aim : Aim) (cause : Cause) → IsOwn c.client (lines_in (gives_up_aim c aim cause).told)
+own_aim c (Update number) cause = own_one c.client number (said.Kept cause)
+own_aim c Read cause = own_answered c c.queue (said.Failed cause)
+own_aim c Finish cause = own_unfinished c.client cause c.kept
+
+own_work : (c : SeenClient) (task : Option Task) (cause : Cause) → IsOwn c.client (lines_in (gives_up_for c task cause).told)
+own_work c None cause = tt
+own_work c (Some task) cause = own_aim c task.aim cause
+
 pub taken : (c : SeenClient) → TellsOwn c (takes_call c)
-taken c other ne = first_taken c other ne c.queue
+taken c = record { own = own_first c c.queue; others = λ other ne. first_taken c other ne c.queue }
 
 pub answered : (c : SeenClient) (what : Said) → TellsOwn c (answers_read c what)
-answered c what other ne = first_answered c other ne c.queue what
+answered c what = record { own = own_answered c c.queue what; others = λ other ne. first_answered c other ne c.queue what }
 
 pub given_up : (c : SeenClient) (cause : Cause) → TellsOwn c (gives_up c cause)
-given_up c cause other ne = work_given_up c other ne c.task cause
+given_up c cause = record { own = own_work c c.task cause; others = λ other ne. work_given_up c other ne c.task cause }
 
 pub replied : (c : SeenClient) (replies : List Reply) → TellsOwn c (commits c replies)
-replied c replies other ne = all_replied c other ne c.kept replies
+replied c replies = record { own = own_replied c.client c.kept replies; others = λ other ne. all_replied c other ne c.kept replies }

@@ -16,7 +16,7 @@ use Rattle.zb_claims.specs.Points.{dids, tree_at}
 use Rattle.zb_given.specs.Batches.{BatchReplied, IsUpdateOf, numbers_in, reply_lines as lines_of}
 use Rattle.zb_given.specs.Given.{FitGiven, Given, place_of, script_of}
 use Rattle.zb_given.specs.Queues.{CallsStand}
-use Rattle.zb_given.proofs.Batching.{replies_batch}
+use Rattle.zb_given.proofs.Batching.{over_longer, replies_batch}
 use Rattle.zb_given.proofs.Crashing.{no_crash}
 use Rattle.zb_tables.specs.Shown.{replies_through, tree_through}
 use Rattle.zb_basis.specs.declared.calls.Numbered.{Numbered}
@@ -28,7 +28,7 @@ use Rattle.zb_work.specs.Steps.{aim_of, next_task}
 use Rattle.zb_client.specs.Seen.{SeenClient}
 use Rattle.zb_client.specs.Hearing.{commits}
 use Rattle.zb_client.specs.Telling.{reply_lines}
-use Rattle.zb_line_laws.specs.Calls.{AimHas, HasItsCalls, IsCalm, IsGiven, dids_of, lines_in, numbers_of}
+use Rattle.zb_line_laws.specs.Calls.{AimHas, HasItsCalls, IsCalm, IsFinishing, IsGiven, dids_of, lines_in, numbers_of}
 use Rattle.zb_line_laws.proofs.Taking.{numbers-append}
 
 -- ---- the first kept calls form a run
@@ -162,6 +162,13 @@ module _ (given : Given) (lines : List Outcome) (c : SeenClient) (fit : FitGiven
   abbrev Lines : List Outcome
   Lines = lines ++ lines_of c.client Batch
 
+  finishing : (aim : Option Aim) (left : Bool) → (aim ≡ Some Finish → IsFinishing given lines) → aim_of (next_task aim left) ≡ Some Finish → IsFinishing given Lines
+  finishing None left was e = absurd (cc e)
+  finishing (Some (Update n)) true was e = absurd (cc e)
+  finishing (Some (Update n)) false was e = absurd (cc e)
+  finishing (Some Read) left was e = absurd (cc e)
+  finishing (Some Finish) left was e = over_longer lines (lines_of c.client Batch) given.finishes (was refl)
+
   has : HasItsCalls given Lines (commits c Replies).client
   has = record {
     taken = h.taken;
@@ -172,6 +179,7 @@ module _ (given : Given) (lines : List Outcome) (c : SeenClient) (fit : FitGiven
     all = h.all;
     work = subst (λ (ks : List Numbered). AimHas (aim_of (next_task (aim_of c.task) (nat_lt 0 (length ks)))) h.taken replied.after) (sym left_is)
         (aim_later (aim_of c.task) front.rest h.taken h.lined replied.after h.work replied.same replied.all);
+    finishing = finishing (aim_of c.task) (nat_lt 0 (length (drop (length Replies) c.kept))) h.finishing;
   }
 
   tree_later : tree_at (script_of given) Lines ≡ tree_through Now (updates_of Run)

@@ -15,7 +15,7 @@ use Rattle.zb_given.proofs.Adding.{adds_buffered}
 use Rattle.zb_given.proofs.Standing.{buffers, takes}
 use Rattle.zb_basis.specs.declared.calls.Numbered.{Numbered}
 use Rattle.zb_basis.proofs.Each.{each-append}
-use Rattle.zb_work.specs.declared.work.Aim.TheVariants.{Update, Read}
+use Rattle.zb_work.specs.declared.work.Aim.TheVariants.{Update, Read, Finish}
 use Rattle.zb_work.specs.declared.work.Task.{Task}
 use Rattle.zb_work.specs.Steps.{aim_of, new_task}
 use Rattle.zb_client.specs.Seen.{SeenClient}
@@ -31,6 +31,15 @@ numbers-length : (xs : List Numbered) → length (numbers_of xs) ≡ length xs
 numbers-length [] = refl
 numbers-length (x ∷ xs) = ap suc (numbers-length xs)
 
+pub no_work : None ≡ Some Finish → ⊥
+no_work e = cc e
+
+no_update : (n : ℕ) → Some (Update n) ≡ Some Finish → ⊥
+no_update n e = cc e
+
+no_read : Some Read ≡ Some Finish → ⊥
+no_read e = cc e
+
 module _ (given : Given) (lines : List Outcome) (c : SeenClient) (fit : FitGiven given lines) (h : HasItsCalls given lines c) where
   abbrev Fits : Heard → Type 0
   Fits heard = FitGiven given (lines ++ lines_in heard.told) × HasItsCalls given (lines ++ lines_in heard.told) heard.client
@@ -43,7 +52,7 @@ module _ (given : Given) (lines : List Outcome) (c : SeenClient) (fit : FitGiven
   quiet d g = (
     subst (FitGiven given) same_lines fit,
     subst (λ (ls : List Outcome). HasItsCalls given ls (silent d).client) same_lines
-        (record { taken = g.taken; lined = g.lined; stand = g.stand; kept = g.kept; queue = g.queue; all = g.all; work = g.work }),
+        (record { taken = g.taken; lined = g.lined; stand = g.stand; kept = g.kept; queue = g.queue; all = g.all; work = g.work; finishing = g.finishing }),
   )
 
   module _ (none : c.task ≡ None) where
@@ -96,6 +105,7 @@ module _ (given : Given) (lines : List Outcome) (c : SeenClient) (fit : FitGiven
               queue = behind;
               all = count;
               work = subst (λ (t : Option Task). AimHas (aim_of t) (suc h.taken) (suc h.taken)) (sym none) refl;
+              finishing = λ e. absurd (no_work (sym (ap aim_of none) ∙ e));
             },
           )
 
@@ -110,6 +120,7 @@ module _ (given : Given) (lines : List Outcome) (c : SeenClient) (fit : FitGiven
             queue = behind;
             all = count;
             work = (number_is, (let e : suc h.taken ≡ h.taken + 1 = omega arith in e));
+            finishing = λ e. absurd (no_update call.number e);
           })
 
       full_by : (can few : Bool) → is_bufferable call.call ≡ can → nat_lt (length Kept) most_kept ≡ few → can && few ≡ false → is_bufferable call.call ≡ true → most_kept ≤ suc (length (numbers_of c.kept))
@@ -132,6 +143,7 @@ module _ (given : Given) (lines : List Outcome) (c : SeenClient) (fit : FitGiven
         queue = h.queue;
         all = h.all;
         work = lined_is;
+        finishing = λ e. absurd (no_read e);
       })
 
       taken_by : (update : Bool) → is_update call.call ≡ update → Fits (if update then keeps With call else silent (record c { task = new_task Read }))

@@ -1,5 +1,5 @@
 -- How the calls of a client's machine are those that it was given, and what its steps tell of them.
-use Rattle.std.specs.Prelude.{◌≡◌, ℕ, suc, ◌==◌, ◌+◌, ◌∷◌, ◌++◌, List, [], length, map, Option, Some, None, false}
+use Rattle.std.specs.Prelude.{◌≡◌, ℕ, suc, ◌==◌, ◌+◌, ◌∷◌, ◌++◌, List, [], length, map, Option, Some, None, false, nat_le, true}
 use Rattle.std.specs.List.{list_any, AllByRecursion}
 use Rattle.zb_types.specs.declared.calls.Call.{Call}
 use Rattle.zb_types.specs.declared.calls.Reply.{Reply}
@@ -34,12 +34,16 @@ AimHas (Some (Update number)) taken lined = (number ≡ taken) × (taken ≡ lin
 AimHas (Some Read) taken lined = lined ≡ taken
 AimHas (Some Finish) taken lined = lined ≡ taken
 
+-- a finish had begun by these lines
+abbrev pub IsFinishing : Given → List Outcome → Type 0
+IsFinishing given lines = list_any (λ at. nat_le at (length lines)) given.finishes ≡ true
+
 -- the numbers of some calls
 abbrev pub numbers_of : List Numbered → List ℕ
 numbers_of calls = map (λ k. k.number) calls
 
 -- A client has its calls: those that it keeps stand so by the lines, those in its queue are all that were given behind
--- the ones that were taken, and its work is for them.
+-- the ones that were taken, and its work is for them; it finishes only once that began.
 pub record HasItsCalls (given : Given) (lines : List Outcome) (c : SeenClient) : Type 0 where
   pub taken : ℕ
   pub lined : ℕ
@@ -48,6 +52,7 @@ pub record HasItsCalls (given : Given) (lines : List Outcome) (c : SeenClient) :
   pub queue : AreGivenBehind given c.client taken c.queue
   pub all : taken + length c.queue ≡ length (calls_of given c.client)
   pub work : AimHas (aim_of c.task) taken lined
+  pub finishing : aim_of c.task ≡ Some Finish → IsFinishing given lines
 
 -- the lines that a step tells
 abbrev pub lines_in : Told → List Outcome
@@ -58,9 +63,10 @@ lines_in (told.Lines lines) = lines
 abbrev pub FitsAfter : Given → List Outcome → Heard → Type 0
 FitsAfter given lines heard = FitGiven given (lines ++ lines_in heard.told) × HasItsCalls given (lines ++ lines_in heard.told) heard.client
 
--- what a step tells is of no other client
-abbrev pub TellsOwn : SeenClient → Heard → Type 0
-TellsOwn c heard = (other : ℕ) → (other == c.client) ≡ false → list_any (is_of_client other) (lines_in heard.told) ≡ false
+-- what a step tells is of this client, and of no other
+pub record TellsOwn (c : SeenClient) (heard : Heard) : Type 0 where
+  pub own : AllByRecursion (λ line. is_of_client c.client line ≡ true) (lines_in heard.told)
+  pub others : (other : ℕ) → (other == c.client) ≡ false → list_any (is_of_client other) (lines_in heard.told) ≡ false
 
 -- one call more stands in its queue, with the next number
 abbrev pub queues : Given → SeenClient → Call → SeenClient

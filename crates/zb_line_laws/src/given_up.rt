@@ -1,5 +1,4 @@
-ghost use Rattle.std.specs.Prelude.{◌≡◌, List, ◌∷◌, ℕ, Some, length, nat_le, true, false};
-ghost use Rattle.std.specs.List.{list_any};
+ghost use Rattle.std.specs.Prelude.{◌≡◌, List, ◌∷◌, ℕ, Some, false};
 ghost use Rattle.zb_types.specs.Apply.{is_update};
 ghost use Rattle.zb_types.specs.declared.nodes.Cause.{Cause};
 ghost use Rattle.zb_types.specs.declared.lines.Outcome.{Outcome};
@@ -23,6 +22,5 @@ pub fn given_up_calls_fit()
         → FitsAfter given lines (gives_up c cause) }
     ensures finish { (given : Given) (lines : List Outcome) (c : SeenClient) (task : Task) (cause : Cause)
         → FitGiven given lines → HasItsCalls given lines c → c.task ≡ Some task → task.aim ≡ Finish → c.doubted ≡ 0
-        → list_any (λ at. nat_le at (length lines)) given.finishes ≡ true
         → FitsAfter given lines (gives_up c cause) }
 {}

@@ -8,4 +8,4 @@ pub returns-clause-read : goal.returns-clause-read
 returns-clause-read c given lines client task read rest cause fit h is aim queue reads = given_up_read given lines client task read rest cause fit h is aim queue reads
 
 pub returns-clause-finish : goal.returns-clause-finish
-returns-clause-finish c given lines client task cause fit h is aim settled over = given_up_finish given lines client task cause fit h is aim settled over
+returns-clause-finish c given lines client task cause fit h is aim settled = given_up_finish given lines client task cause fit h is aim settled

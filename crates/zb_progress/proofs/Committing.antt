@@ -1,7 +1,5 @@
 -- A stored batch whose lookups are at the versions of the tables is not refused.
-use Rattle.zb_client_laws.specs.Known.{IsKnown}
-use Rattle.zb_sound.proofs.Currents.{next_taken}
-use Rattle.std.proofs.Common.{◌+◌, ◌≡◌, ℕ, ◌-◌, ◌≤◌, ◌<◌, Bool, true, false, List, [], ◌∷◌, Option, Some, None, refl, sym, ap, ◌∙◌, subst, arith}
+use Rattle.std.proofs.Common.{◌≡◌, ℕ, ◌+◌, ◌-◌, ◌≤◌, ◌<◌, Bool, true, false, List, [], ◌∷◌, Option, Some, None, refl, sym, ap, ◌∙◌, subst, arith}
 use Rattle.std.specs.Prelude.{IsTrue, length, ◌==◌, nat_le, nat_lt, if◌then◌else◌, Result, Ok, Err, IsSomeAnd}
 use Rattle.std.specs.List.{AllByRecursion}
 use Rattle.std.proofs.lemmas.Bool.{false≢true}
@@ -25,6 +23,7 @@ use Rattle.zb_tables.specs.Tables.{Contents, LiesIn, SameIn, bytes_at, last_valu
 use Rattle.zb_tables.specs.Leaving.{IsOfUpdate}
 use Rattle.zb_tables.specs.Taking.{any_wears, below_mark, commit_refusal, mark_of, or_else, regen_of, stale_of, worn_of}
 use Rattle.zb_sound.specs.LookupsCurrent.{AreFetched}
+use Rattle.zb_sound.proofs.Currents.{next_taken}
 use Rattle.zb_sound.proofs.Flushing.{parts_same}
 use Rattle.zb_sound.proofs.Saying.{said_tables}
 use Rattle.zb_sound.proofs.Strays.{copies_grown}
@@ -48,6 +47,7 @@ use Rattle.zb_work.specs.Steps.{first_members, step_of}
 use Rattle.zb_client.specs.Seen.{SeenClient}
 use Rattle.zb_client_laws.specs.Around.{Around, IsAround, at_rest}
 use Rattle.zb_client_laws.specs.Effects.{founds}
+use Rattle.zb_client_laws.specs.Known.{IsKnown}
 use Rattle.zb_client_laws.specs.Sound.{ClientIsSound}
 use Rattle.zb_client_laws.proofs.Blocks.{all_there}
 use Rattle.zb_client_laws.proofs.Lasting.{short_run}

@@ -1,13 +1,12 @@
 -- How far the operations of a batch raise the versions of the files.
-use Rattle.zb_tables.proofs.Alls.{all_filter, all_keyed, all_map, all_put, all_replaced}
-use Rattle.zb_types.specs.declared.calls.Reply.{Reply}
-use Rattle.std.proofs.Common.{true, ◌≡◌, ℕ, suc, ◌+◌, ◌-◌, ◌*◌, ◌<◌, ◌≤◌, Bool, false, eqb, List, [], ◌∷◌, length, Option, Some, None, refl, sym, ap, ◌∙◌, subst, arith}
+use Rattle.std.proofs.Common.{◌≡◌, ℕ, suc, ◌+◌, ◌-◌, ◌*◌, ◌<◌, ◌≤◌, Bool, true, false, eqb, List, [], ◌∷◌, length, Option, Some, None, refl, sym, ap, ◌∙◌, subst, arith}
 use Rattle.std.specs.Prelude.{◌==◌, ◌||◌, ◌&&◌, IfOk, IsTrue, nat_le, nat_lt, not, Result, Ok, Err, IsSomeAnd}
 use Rattle.std.specs.List.{AllByRecursion, list_all, list_any}
 use Rattle.std.proofs.lemmas.Bool.{and_parts, cond_both}
 use Rattle.std.proofs.lemmas.Bool.Decides.{nat_tests}
 use Rattle.zb_types.specs.declared.calls.Call.{Call}
 use Rattle.zb_types.specs.declared.calls.Refusal.{Refusal}
+use Rattle.zb_types.specs.declared.calls.Reply.{Reply}
 use Rattle.zb_types.specs.declared.ids.Fid.{Fid}
 use Rattle.zb_types.specs.declared.ids.LogId.{LogId}
 use Rattle.zb_types.specs.declared.ids.Piece.{Piece}
@@ -23,6 +22,7 @@ use Rattle.zb_tables.specs.Fold.{Files, Shelf, Stale, after_cut, after_write, an
 use Rattle.zb_tables.specs.Leaving.{IsOfUpdate}
 use Rattle.zb_tables.specs.Tables.{EachFile, FileState, Tables, last_value, risen, LogState}
 use Rattle.zb_tables.specs.Taking.{any_wears, is_worn, on_done, wears}
+use Rattle.zb_tables.proofs.Alls.{all_filter, all_keyed, all_map, all_put, all_replaced}
 use Rattle.zb_tables.proofs.Each.{each_look, each_map, each_put, each_replaced, each_without}
 use Rattle.zb_progress.specs.Fresh.{MayRise, RoseBy}
 

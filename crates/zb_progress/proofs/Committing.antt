@@ -1,6 +1,6 @@
 -- A stored batch whose lookups are at the versions of the tables is not refused.
-use Rattle.std.proofs.Common.{◌≡◌, ℕ, ◌-◌, ◌≤◌, ◌<◌, Bool, true, false, List, [], ◌∷◌, Option, Some, None, refl, sym, ap, ◌∙◌, subst, arith}
-use Rattle.std.specs.Prelude.{IsTrue, length, ◌==◌, nat_le, nat_lt, if◌then◌else◌, Result, Ok, Err}
+use Rattle.std.proofs.Common.{◌≡◌, ℕ, ◌+◌, ◌-◌, ◌≤◌, ◌<◌, Bool, true, false, List, [], ◌∷◌, Option, Some, None, refl, sym, ap, ◌∙◌, subst, arith}
+use Rattle.std.specs.Prelude.{IsTrue, length, ◌==◌, nat_le, nat_lt, if◌then◌else◌, Result, Ok, Err, IsSomeAnd}
 use Rattle.std.specs.List.{AllByRecursion}
 use Rattle.std.proofs.lemmas.Bool.{false≢true}
 use Rattle.std.proofs.lemmas.Bool.Decides.{nat_tests}
@@ -19,10 +19,11 @@ use Rattle.zb_batch.specs.declared.batch.Batch.{Batch}
 use Rattle.zb_batch.specs.declared.batch.Op.{Op}
 use Rattle.zb_batch.specs.Batches.{is_company}
 use Rattle.zb_tables.specs.Fold.{Shelf, Stale, done_ops, shelf_of}
-use Rattle.zb_tables.specs.Tables.{Contents, LiesIn, SameIn, bytes_at, last_value}
+use Rattle.zb_tables.specs.Tables.{Contents, LiesIn, SameIn, bytes_at, last_value, LogState}
 use Rattle.zb_tables.specs.Leaving.{IsOfUpdate}
 use Rattle.zb_tables.specs.Taking.{any_wears, below_mark, commit_refusal, mark_of, or_else, regen_of, stale_of, worn_of}
 use Rattle.zb_sound.specs.LookupsCurrent.{AreFetched}
+use Rattle.zb_sound.proofs.Currents.{next_taken}
 use Rattle.zb_sound.proofs.Flushing.{parts_same}
 use Rattle.zb_sound.proofs.Saying.{said_tables}
 use Rattle.zb_sound.proofs.Strays.{copies_grown}
@@ -46,13 +47,14 @@ use Rattle.zb_work.specs.Steps.{first_members, step_of}
 use Rattle.zb_client.specs.Seen.{SeenClient}
 use Rattle.zb_client_laws.specs.Around.{Around, IsAround, at_rest}
 use Rattle.zb_client_laws.specs.Effects.{founds}
+use Rattle.zb_client_laws.specs.Known.{IsKnown}
 use Rattle.zb_client_laws.specs.Sound.{ClientIsSound}
 use Rattle.zb_client_laws.proofs.Blocks.{all_there}
 use Rattle.zb_client_laws.proofs.Lasting.{short_run}
 use Rattle.zb_client_laws.proofs.Moving.{founds_same}
 use Rattle.zb_client_laws.proofs.Delivered.{Former, Given, Is, Are, Stored, Whole, current, delivered, log_is, standing}
 use Rattle.zb_progress.specs.Fresh.{IsStale, MayRise, is_fresh, is_fresh_at, same_numbers, versions_of}
-use Rattle.zb_progress.proofs.Rising.{company-few, none-wears, room-most}
+use Rattle.zb_progress.proofs.Rising.{company-few, none-wears, room-most, number-low}
 use Rattle.zb_progress.proofs.Versions.{IsDone, batch-done}
 
 -- pieces that don't lie below a mark
@@ -81,14 +83,8 @@ pub some-op : (os : List Op) → IsTrue (is_company os) → 1 ≤ length os
 some-op [] t = absurd (false≢true t)
 some-op (o ∷ os) t = omega arith
 
--- a stored batch has at most eight operations
-pub sealed-few : (w : Around) (seen : Tree) (c : SeenClient) (s : ClientIsSound w seen c) (basis : Basis) (sealed : Sealed) → step_of c.task ≡ step.Commit basis sealed → length sealed.batch.ops ≤ most_kept
-sealed-few w seen c s basis sealed e =
-    subst (λ (x : Sealed). length x.batch.ops ≤ most_kept) (sym (delivered w seen c s basis sealed e).sealed_is)
-    (company-few (Whole w seen c s basis sealed e).sealed.batch.ops (Is w seen c s basis sealed e).spelled.company)
-
 module _ (w : Around) (seen : Tree) (c : SeenClient) (s : ClientIsSound w seen c) (basis : Basis) (sealed : Sealed) (e : step_of c.task ≡ step.Commit basis sealed)
-    (slots : ℕ) (a : IsAround slots w) where
+    (slots : ℕ) (a : IsAround slots w) (known : IsKnown c) where
   abbrev F : SeenLog
   F = Former w seen c s basis sealed e
 
@@ -123,6 +119,17 @@ module _ (w : Around) (seen : Tree) (c : SeenClient) (s : ClientIsSound w seen c
       is.is_batch.of_calls (bytes_at New)
       (contents-stand New basis.fetched (Whole w seen c s basis sealed e).sealed.placed.ptrs is.blocks fetched
       (blocks-stand w.z.servers w.z.fragment w.z.block F c.batch (first_members basis.found) (run_of c.kept) basis (Whole w seen c s basis sealed e) is G (Are w seen c s basis sealed e) w.contents))
+
+  -- the log has a next batch
+  next : IsSomeAnd (look c.log.log.0 w.tables.logs) (λ (l : LogState). (l.live ≡ true) × (c.batch ≡ l.batch + 1))
+  next =
+      let some = known.numbered in
+      let number : c.batch - 1 + 1 ≡ c.batch = omega arith in
+      subst (λ (n : ℕ). IsSomeAnd (look c.log.log.0 w.tables.logs) (λ (l : LogState). (l.live ≡ true) × (n ≡ l.batch + 1))) number
+      (next_taken w.tables c.log.log c.client (c.batch - 1) s.log.last s.log.generation s.log.at s.log.front s.log.current)
+
+  number : MayRise w.tables → c.batch ≤ last_value
+  number may = number-low c.batch w.tables.logs c.log.log.0 may.batches next
 
   -- each is an update's
   updates : AllByRecursion IsOfUpdate Made.ops
@@ -160,7 +167,7 @@ module _ (w : Around) (seen : Tree) (c : SeenClient) (s : ClientIsSound w seen c
 
   -- ---- it isn't stale, and wears nothing out
 
-  module _ (may : MayRise w.tables) (number : c.batch ≤ last_value) (fresh : is_fresh w.tables c ≡ true) where
+  module _ (may : MayRise w.tables) (fresh : is_fresh w.tables c ≡ true) where
     some-batch : (kept : List Numbered) → c.kept ≡ kept → is_fresh_at w.tables w.z.block kept (step.Commit basis sealed) ≡ true
         → same_numbers (versions_of basis.found) (versions_of (founds w.tables (asks_of w.z.block (run_of kept)))) ≡ true
     some-batch [] k t =
@@ -181,18 +188,18 @@ module _ (w : Around) (seen : Tree) (c : SeenClient) (s : ClientIsSound w seen c
         ap (λ (o : Option CommitFault). or_else o (or_else (stale_of (done_ops w.z.block Made.ops (shelf_of w.tables))) (worn_of w.z.block w.tables Made))) not-regen
         ∙ ap (λ (d : Result Shelf Stale). or_else (stale_of d) (worn_of w.z.block w.tables Made)) done.0.1
         ∙ not-worn w.tables.next_entry Made.number (any_wears w.z.block Made.ops (shelf_of w.tables)) may.entry
-        (subst (λ (n : ℕ). n ≤ last_value) (sym (Is w seen c s basis sealed e).is_batch.numbered) number) done.1
+        (subst (λ (n : ℕ). n ≤ last_value) (sym (Is w seen c s basis sealed e).is_batch.numbered) (number may)) done.1
 
     pub fresh-committed : commit_refusal w.z.block w.tables sealed.batch sealed.placed.pieces sealed.members.generation ≡ None
     fresh-committed =
         subst (λ (x : Sealed). commit_refusal w.z.block w.tables x.batch x.placed.pieces x.members.generation ≡ None) (sym (delivered w seen c s basis sealed e).sealed_is) not-refused
 
-  module _ (may : MayRise w.tables) (number : c.batch ≤ last_value) where
+  module _ (may : MayRise w.tables) where
     worn-none : worn_of w.z.block w.tables Made ≡ None
     worn-none =
         let few = company-few Made.ops (Is w seen c s basis sealed e).spelled.company in
         not-worn w.tables.next_entry Made.number (any_wears w.z.block Made.ops (shelf_of w.tables)) may.entry
-        (subst (λ (n : ℕ). n ≤ last_value) (sym (Is w seen c s basis sealed e).is_batch.numbered) number)
+        (subst (λ (n : ℕ). n ≤ last_value) (sym (Is w seen c s basis sealed e).is_batch.numbered) (number may))
         (none-wears w.z.block Made.ops (last_value - most_kept) (shelf_of w.tables) updates (room-most w.tables may) (omega (arith, few)))
 
     stale-by : (fault : CommitFault) (d : Result Shelf Stale) → or_else (stale_of d) (worn_of w.z.block w.tables Made) ≡ Some fault → IsStale fault
@@ -205,7 +212,7 @@ module _ (w : Around) (seen : Tree) (c : SeenClient) (s : ClientIsSound w seen c
       stale-by fault (done_ops w.z.block Made.ops (shelf_of w.tables))
           (sym (ap (λ (o : Option CommitFault). or_else o (or_else (stale_of (done_ops w.z.block Made.ops (shelf_of w.tables))) (worn_of w.z.block w.tables Made))) not-regen)
           ∙ subst (λ (x : Sealed). commit_refusal w.z.block w.tables x.batch x.placed.pieces x.members.generation ≡ Some fault) (delivered w seen c s basis sealed e).sealed_is is),
-      old (is_fresh w.tables c) (λ t. none-some fault (sym (fresh-committed may number t) ∙ is)),
+      old (is_fresh w.tables c) (λ t. none-some fault (sym (fresh-committed may t) ∙ is)),
     ) where
       old : (t : Bool) → (t ≡ true → ⊥) → t ≡ false
       old true none = absurd (none refl)

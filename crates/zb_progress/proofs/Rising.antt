@@ -1,26 +1,28 @@
 -- How far the operations of a batch raise the versions of the files.
-use Rattle.std.proofs.Common.{◌≡◌, ℕ, suc, ◌+◌, ◌-◌, ◌*◌, ◌<◌, ◌≤◌, Bool, false, eqb, List, [], ◌∷◌, length, Option, Some, None, refl, sym, ap, ◌∙◌, subst, arith}
-use Rattle.std.specs.Prelude.{◌==◌, ◌||◌, ◌&&◌, IfOk, IsTrue, nat_le, nat_lt, not, Result, Ok, Err}
-use Rattle.std.specs.List.{AllByRecursion, list_all}
+use Rattle.std.proofs.Common.{◌≡◌, ℕ, suc, ◌+◌, ◌-◌, ◌*◌, ◌<◌, ◌≤◌, Bool, true, false, eqb, List, [], ◌∷◌, length, Option, Some, None, refl, sym, ap, ◌∙◌, subst, arith}
+use Rattle.std.specs.Prelude.{◌==◌, ◌||◌, ◌&&◌, IfOk, IsTrue, nat_le, nat_lt, not, Result, Ok, Err, IsSomeAnd}
+use Rattle.std.specs.List.{AllByRecursion, list_all, list_any}
 use Rattle.std.proofs.lemmas.Bool.{and_parts, cond_both}
 use Rattle.std.proofs.lemmas.Bool.Decides.{nat_tests}
 use Rattle.zb_types.specs.declared.calls.Call.{Call}
 use Rattle.zb_types.specs.declared.calls.Refusal.{Refusal}
+use Rattle.zb_types.specs.declared.calls.Reply.{Reply}
 use Rattle.zb_types.specs.declared.ids.Fid.{Fid}
 use Rattle.zb_types.specs.declared.ids.LogId.{LogId}
 use Rattle.zb_types.specs.declared.ids.Piece.{Piece}
 use Rattle.zb_types.specs.Apply.{max_file}
-use Rattle.zb_types.specs.Keyed.{look}
+use Rattle.zb_types.specs.Keyed.{look, changed}
 use Rattle.zb_types.specs.Limits.{most_kept}
 use Rattle.zb_types.specs.Names.{Change, same, makes, drops, name_change, name_refusal}
 use Rattle.zb_types.specs.Tree.{files_after}
 use Rattle.zb_batch.specs.declared.batch.Op.{Op}
 use Rattle.zb_batch.specs.declared.batch.Op.TheVariants as op
 use Rattle.zb_batch.specs.Batches.{is_alone, is_company}
-use Rattle.zb_tables.specs.Fold.{Files, Shelf, Stale, after_cut, after_write, and_then, committed, done_op, done_ops, named, new_file, resized, shelf_of}
+use Rattle.zb_tables.specs.Fold.{Files, Shelf, Stale, after_cut, after_write, and_then, committed, done_op, done_ops, named, new_file, resized, shelf_of, attached, ended, kept_logs, last_of, new_log, with_batch}
 use Rattle.zb_tables.specs.Leaving.{IsOfUpdate}
-use Rattle.zb_tables.specs.Tables.{EachFile, FileState, Tables, last_value, risen}
+use Rattle.zb_tables.specs.Tables.{EachFile, FileState, Tables, last_value, risen, LogState}
 use Rattle.zb_tables.specs.Taking.{any_wears, is_worn, on_done, wears}
+use Rattle.zb_tables.proofs.Alls.{all_filter, all_keyed, all_map, all_put, all_replaced}
 use Rattle.zb_tables.proofs.Each.{each_look, each_map, each_put, each_replaced, each_without}
 use Rattle.zb_progress.specs.Fresh.{MayRise, RoseBy}
 
@@ -122,21 +124,64 @@ room-most t may = each_map (λ (f : FileState). f.version + most_kept ≤ last_v
 pub may-rise : (n : ℕ) (t : Tables) → RoseBy n t → most_kept * n + most_kept ≤ last_value → MayRise t
 may-rise n t rose le = record {
   versions = each_map (λ (f : FileState). f.version ≤ most_kept * n) (λ (f : FileState). f.version + most_kept ≤ last_value) (λ f low. omega (arith, low, le)) t.files rose.versions;
+  batches = all_map (λ (e : ℕ × LogState). e.1.batch ≤ n) (λ (e : ℕ × LogState). e.1.batch < last_value) (λ e low. omega (arith, low, le)) t.logs rose.batches;
   entry = let low = rose.entry in omega (arith, low, le);
 }
 
-pub next-entry : (n m : ℕ) → m ≤ n → risen m ≤ n + 1
-next-entry n m le = risen-most m n le
+-- no log has a batch above this
+abbrev BatchesAtMost : ℕ → List (ℕ × LogState) → Type 0
+BatchesAtMost most logs = AllByRecursion (λ e. e.1.batch ≤ most) logs
 
-pub versions-later : (n : ℕ) (files : Files) → AtMost (most_kept * n) files → AtMost (most_kept * (n + 1)) files
+batches-later : (n : ℕ) (logs : List (ℕ × LogState)) → BatchesAtMost n logs → BatchesAtMost (n + 1) logs
+batches-later n logs all = all_map (λ (e : ℕ × LogState). e.1.batch ≤ n) (λ (e : ℕ × LogState). e.1.batch ≤ n + 1) (λ e le. omega (arith, le)) logs all
+
+versions-later : (n : ℕ) (files : Files) → AtMost (most_kept * n) files → AtMost (most_kept * (n + 1)) files
 versions-later n files all = each_map (λ (f : FileState). f.version ≤ most_kept * n) (λ (f : FileState). f.version ≤ most_kept * (n + 1)) (λ f le. omega (arith, le)) files all
 
-pub commit-rises : (n b : ℕ) (t : Tables) (log : LogId) (number : ℕ) (pieces : List Piece) (os : List Op) (after : Shelf) → AllByRecursion IsOfUpdate os → length os ≤ most_kept
-    → done_ops b os (shelf_of t) ≡ Ok after → RoseBy n t → RoseBy (n + 1) (committed t log number pieces after)
-commit-rises n b t log number pieces os after are few done rose =
+ended-batch : (owner : ℕ) (l : LogState) → (ended owner l).batch ≡ l.batch
+ended-batch owner l = cond_both (l.owner == owner) (record l { live = false }) l (λ (x : LogState). x.batch ≡ l.batch) (λ _. refl) (λ _. refl)
+
+batches-ended : (n owner : ℕ) (logs : List (ℕ × LogState)) → BatchesAtMost n logs → BatchesAtMost n (changed (ended owner) logs)
+batches-ended n owner [] all = tt
+batches-ended n owner (e ∷ es) all = (subst (λ (m : ℕ). m ≤ n) (sym (ended-batch owner e.1)) all.0, batches-ended n owner es all.1)
+
+pub attach-rises : (n owner : ℕ) (t : Tables) (log : LogId) → RoseBy n t → RoseBy (n + 1) (attached t owner log)
+attach-rises n owner t log rose = record {
+  versions = versions-later n t.files rose.versions;
+  batches =
+      all_put (λ (e : ℕ × LogState). e.1.batch ≤ n + 1) log.0 (new_log owner) (omega arith) (kept_logs t.held (changed (ended owner) t.logs))
+      (all_filter (λ e. e.1.live || list_any (λ h. h.log.0 == e.0) t.held) (λ (e : ℕ × LogState). e.1.batch ≤ n) (λ (e : ℕ × LogState). e.1.batch ≤ n + 1) (λ e keep le. omega (arith, le))
+      (changed (ended owner) t.logs) (batches-ended n owner t.logs rose.batches));
+  entry = risen-most t.next_entry n rose.entry;
+}
+
+-- the next batch of a log
+next-most : (n number : ℕ) (logs : List (ℕ × LogState)) (id : ℕ) → BatchesAtMost n logs → IsSomeAnd (look id logs) (λ (l : LogState). (l.live ≡ true) × (number ≡ l.batch + 1)) → number ≤ n + 1
+next-most n number logs id all next = by (look id logs) refl next where
+  by : (o : Option LogState) → look id logs ≡ o → IsSomeAnd o (λ (l : LogState). (l.live ≡ true) × (number ≡ l.batch + 1)) → number ≤ n + 1
+  by None at next = absurd next
+  by (Some l) at next = let low = all_keyed (λ (e : ℕ × LogState). e.1.batch ≤ n) id l logs all at in let is = next.1 in omega (arith, low, is)
+
+pub number-low : (number : ℕ) (logs : List (ℕ × LogState)) (id : ℕ) → AllByRecursion (λ e. e.1.batch < last_value) logs
+    → IsSomeAnd (look id logs) (λ (l : LogState). (l.live ≡ true) × (number ≡ l.batch + 1)) → number ≤ last_value
+number-low number logs id all next =
+    let below = next-most (last_value - 1) number logs id (all_map (λ (e : ℕ × LogState). e.1.batch < last_value) (λ (e : ℕ × LogState). e.1.batch ≤ last_value - 1) (λ e lt. omega (arith, lt)) logs all) next in
+    omega (arith, below)
+
+batches-with : (n number : ℕ) (log : LogId) (pieces : List Piece) (replies : List Reply) (logs : List (ℕ × LogState)) → number ≤ n → BatchesAtMost n logs → (o : Option LogState)
+    → BatchesAtMost n (with_batch log number pieces replies logs o)
+batches-with n number log pieces replies logs le all None = all
+batches-with n number log pieces replies logs le all (Some l) =
+    all_replaced (λ (e : ℕ × LogState). e.1.batch ≤ n) log.0 (record l { batch = number; replies = replies; last = last_of l.last pieces }) le logs all
+
+pub commit-rises : (n b id number : ℕ) (t : Tables) (log : LogId) (pieces : List Piece) (os : List Op) (after : Shelf) → AllByRecursion IsOfUpdate os → IsTrue (is_company os)
+    → IsSomeAnd (look id t.logs) (λ (l : LogState). (l.live ≡ true) × (number ≡ l.batch + 1)) → done_ops b os (shelf_of t) ≡ Ok after → RoseBy n t → RoseBy (n + 1) (committed t log number pieces after)
+commit-rises n b id number t log pieces os after are company next done rose =
+    let few = company-few os company in
     let all : AtMost (most_kept * n + length os) after.files =
     subst (λ (d : Result Shelf Stale). IfOk d (λ a. AtMost (most_kept * n + length os) a.files)) done (ops-rise b os (most_kept * n) (shelf_of t) are rose.versions) in
     record {
       versions = each_map (λ (f : FileState). f.version ≤ most_kept * n + length os) (λ (f : FileState). f.version ≤ most_kept * (n + 1)) (λ f le. omega (arith, le, few)) after.files all;
-      entry = next-entry n t.next_entry rose.entry;
+      batches = batches-with (n + 1) number log pieces after.replies t.logs (next-most n number t.logs id rose.batches next) (batches-later n t.logs rose.batches) (look log.0 t.logs);
+      entry = risen-most t.next_entry n rose.entry;
     }

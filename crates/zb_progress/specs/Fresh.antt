@@ -1,5 +1,6 @@
 -- Whether what a batch looked up is at the versions that the tables have now.
 use Rattle.std.specs.Prelude.{ℕ, ◌+◌, ◌*◌, ◌≤◌, ◌<◌, Bool, true, false, ◌==◌, ◌&&◌, List, [], ◌∷◌, map, Option, Some, None}
+use Rattle.std.specs.List.{AllByRecursion}
 use Rattle.zb_types.specs.declared.tables.CommitFault.{CommitFault}
 use Rattle.zb_types.specs.declared.tables.CommitFault.TheVariants.{Regen, Stale, Worn, NoMemory, Stopped}
 use Rattle.zb_types.specs.declared.tables.Found.{Found}
@@ -47,14 +48,17 @@ is_fresh_at t b (first ∷ others) step = is_now t (asks_of b (run_of (first ∷
 abbrev pub is_fresh : Tables → SeenClient → Bool
 is_fresh t c = is_fresh_at t c.block c.kept (step_of c.task)
 
--- no number of the tables is near its last value: a batch may raise each version by eight, and there is a next entry
+-- no number of the tables is near its last value: a batch may raise each version by eight, and each log has a next batch, as
+-- the journal has a next entry
 pub record MayRise (t : Tables) : Type 0 where
   pub versions : EachFile (λ file. file.version + most_kept ≤ last_value) t.files
+  pub batches : AllByRecursion (λ e. e.1.batch < last_value) t.logs
   pub entry : t.next_entry < last_value
 
 -- At most so many entries have raised the numbers of the tables, by one each, and by eight at most the version of a file.
 pub record RoseBy (entries : ℕ) (t : Tables) : Type 0 where
   pub versions : EachFile (λ file. file.version ≤ most_kept * entries) t.files
+  pub batches : AllByRecursion (λ e. e.1.batch ≤ entries) t.logs
   pub entry : t.next_entry ≤ entries
 
 -- a batch is behind a version

@@ -44,7 +44,8 @@ abbrev pub stale_steps : Sizes → Bool → ℕ
 stale_steps z true = 0
 stale_steps z false = steps_from_lookup z
 
--- what the work counts beside the calls
+-- what the work at hand counts beside the calls: for an update or a finish more than none, and for a read less, since its
+-- call is queued still
 abbrev pub work_rank : Option Aim → ℕ
 work_rank None = 1
 work_rank (Some (Update number)) = 2

@@ -1,9 +1,9 @@
 -- Lemmas on the nodes of a system.
 pub mod Telling
-pub mod Reads
+pub mod AnyTree
+pub mod FirstReads
 pub mod Joining
+pub mod Quiet
 pub mod Inside
 pub mod Looking
 pub mod Asking
-pub mod Storing
-pub mod Committing

@@ -1,6 +1,6 @@
 -- What the lines of a step do to the history, and of which lookups their replies are.
-use Rattle.std.proofs.Common.{◌≡◌, ℕ, zero, suc, true, false, Bool, List, [], ◌∷◌, ◌++◌, append-nil, append-assoc, length, Option, Some, None, refl, sym, ap, ◌∙◌, subst}
-use Rattle.std.specs.Prelude.{◌&&◌, nat_lt, take, if◌then◌else◌, All}
+use Rattle.std.proofs.Common.{◌≡◌, ℕ, zero, suc, true, false, Bool, List, [], ◌∷◌, ◌++◌, append-nil, length, Option, Some, None, refl, sym, ap, ◌∙◌, subst}
+use Rattle.std.specs.Prelude.{◌&&◌, nat_lt, take, if◌then◌else◌}
 use Rattle.std.specs.List.{AllByRecursion, flat_map, list_any}
 use Rattle.std.proofs.lemmas.Grind.{flat_map-append}
 use Rattle.std.proofs.lemmas.List.Folds.{list_any-append}
@@ -142,7 +142,7 @@ module _ (given : Given) (lines : List Outcome) (c : SeenClient) (read : Numbere
 -- ---- a batch that is replied to
 
 module _ (given : Given) (client : ℕ) where
-  pub replies_look : (kept : List Numbered) (replies : List Reply) (lines : List Outcome) (looked : Option LookedUp) → AllByRecursion (IsGiven given client) kept → All (λ k. is_update k.call ≡ true) kept
+  pub replies_look : (kept : List Numbered) (replies : List Reply) (lines : List Outcome) (looked : Option LookedUp) → AllByRecursion (IsGiven given client) kept → AllByRecursion (λ k. is_update k.call ≡ true) kept
       → AreOfLookups given lines looked (reply_lines client kept replies)
   replies_look [] replies lines looked given_all updates = tt
   replies_look (call ∷ calls) [] lines looked given_all updates = tt

@@ -124,13 +124,13 @@ pub record Reads (given : Given) (lines : List Outcome) (c : SeenClient) : Type 
   pub is_read : is_update read.call ≡ false
 
 -- the first of these calls, a read
-record Begun (queue : List Numbered) : Type 0 where
-  read : Numbered
-  rest : List Numbered
-  is : queue ≡ read ∷ rest
-  reads : is_update read.call ≡ false
+pub record Begun (queue : List Numbered) : Type 0 where
+  pub read : Numbered
+  pub rest : List Numbered
+  pub is : queue ≡ read ∷ rest
+  pub reads : is_update read.call ≡ false
 
-begun : (queue : List Numbered) → BeginsRead queue → Begun queue
+pub begun : (queue : List Numbered) → BeginsRead queue → Begun queue
 begun [] b = absurd b
 begun (read ∷ rest) b = record { read = read; rest = rest; is = refl; reads = b }
 

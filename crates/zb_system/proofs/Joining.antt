@@ -43,7 +43,7 @@ module _ (clients : List SeenClient) (i : ℕ) (after : SeenClient) where
   there (x ∷ cs) zero d e = same_Some d after (sym e)
   there (x ∷ cs) (suc k) d e = there cs k d e
 
-  elsewhere : (cs : List SeenClient) (k j : ℕ) → j ≢ k → slice_get (slice_set cs k after) j ≡ slice_get cs j
+  pub elsewhere : (cs : List SeenClient) (k j : ℕ) → j ≢ k → slice_get (slice_set cs k after) j ≡ slice_get cs j
   elsewhere [] k j ne = refl
   elsewhere (x ∷ cs) zero zero ne = absurd (ne refl)
   elsewhere (x ∷ cs) zero (suc j) ne = refl

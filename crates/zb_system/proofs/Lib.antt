@@ -7,3 +7,4 @@ pub mod Quiet
 pub mod Inside
 pub mod Looking
 pub mod Asking
+pub mod Storing

@@ -44,7 +44,7 @@ pub record AreSound (given : Given) (lines : List Outcome) (n : SeenNodes) : Typ
   pub count : length n.clients ≡ n.manager.sizes.clients
   pub calls : ClientsHaveCalls given lines reads n.clients
   pub servers : ServersAreSound n
-  pub lines : LinesAreSound given lines
+  pub told : LinesAreSound given lines
   pub rose : RoseBy n.manager.tables.next_entry n.manager.tables
 
 -- What a step of client i + 1 leaves that told `more`: the nodes are sound with its lines, which are its own; a read is answered from

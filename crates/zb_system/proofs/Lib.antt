@@ -1,9 +1,7 @@
 -- Lemmas on the nodes of a system.
 pub mod Telling
-pub mod Reads
-pub mod Joining
-pub mod Inside
-pub mod Looking
-pub mod Asking
-pub mod Storing
-pub mod Committing
+pub mod AnyTree
+pub mod Changed
+pub mod Attached
+pub mod Starting
+pub mod Giving

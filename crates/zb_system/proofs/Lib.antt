@@ -1,6 +1,10 @@
 -- Lemmas on the nodes of a system.
 pub mod Telling
 pub mod AnyTree
+pub mod Changed
+pub mod Attached
+pub mod Starting
+pub mod Giving
 pub mod FirstReads
 pub mod Joining
 pub mod Quiet

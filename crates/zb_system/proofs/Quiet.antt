@@ -50,7 +50,7 @@ pub record StandsStill (old new : SeenNodes) : Type 0 where
   pub slots : new.servers.slots ≡ old.servers.slots
   pub servers : ServersAreSound new
 
-abbrev with_parts : Sizes → Contents → Maps → Tables → Tree → Around
+abbrev pub with_parts : Sizes → Contents → Maps → Tables → Tree → Around
 with_parts z contents maps tables tree = record { z = z; contents = contents; st = record { maps = maps; blank = λ server. false }; tables = tables; tree = tree }
 
 pub same_around : (old new : SeenNodes) (contents : Contents) (tree after : Tree) → StandsStill old new → after ≡ tree → around new contents after ≡ around old contents tree

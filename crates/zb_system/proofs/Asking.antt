@@ -1,5 +1,5 @@
 -- A client reads a block with a request.
-use Rattle.std.proofs.Common.{◌≡◌, ◌≢◌, ℕ, ◌≤◌, true, false, Bool, List, [], ◌∷◌, ◌++◌, length, Option, Some, None, refl, sym, ap, ◌∙◌, subst, inl, inr}
+use Rattle.std.proofs.Common.{◌≡◌, ◌≢◌, ℕ, ◌≤◌, true, false, Bool, List, [], ◌∷◌, Option, Some, None, refl, sym, ap, ◌∙◌, subst, inl, inr}
 use Rattle.std.specs.Prelude.{◌⊎◌, ◌==◌, if◌then◌else◌, slice_set}
 use Rattle.std.proofs.lemmas.Bool.{cases_eq, eq-eqb}
 use Rattle.zb_types.specs.Tree.{Tree}
@@ -12,16 +12,12 @@ use Rattle.zb_types.specs.declared.requests.Request.{Request}
 use Rattle.zb_types.specs.declared.requests.Request.TheVariants as ask
 use Rattle.zb_types.specs.declared.requests.Response.{Response}
 use Rattle.zb_types.specs.declared.requests.Response.TheVariants as told
-use Rattle.zb_holding.specs.Fragments.{Fragment}
-use Rattle.zb_holding.specs.Holding.{Maps}
-use Rattle.zb_holding.specs.Rules.{AreSame, Holdings, IsAnswer, IsLeft, has_after, is_done}
+use Rattle.zb_holding.specs.Rules.{AreSame, IsAnswer, has_after, is_done}
 use Rattle.zb_stripe.specs.Reading.{Answers, AnswersRetrieve, Reading, asked}
 use Rattle.zb_stripe_laws.specs.ReadAtWork.{AnswersFrom}
 use Rattle.zb_given.specs.Given.{Given}
 use Rattle.zb_given.specs.Calls.{IsLookedUp, LookedUp}
-use Rattle.zb_given.specs.Telling.{is_number, seen_by}
-use Rattle.zb_claims.specs.Points.{tree_at}
-use Rattle.zb_given.specs.Given.{script_of}
+use Rattle.zb_given.specs.Telling.{is_number}
 use Rattle.zb_tables.specs.Tables.{Contents, Tables}
 use Rattle.zb_manager.specs.Managers.{SeenManager}
 use Rattle.zb_servers.specs.Standing.{SeenServer, SeenServers, has, maps_of, server_at, stands_in}
@@ -37,7 +33,7 @@ use Rattle.zb_work.specs.Steps.{first_members, step_of}
 use Rattle.zb_client.specs.Seen.{SeenClient}
 use Rattle.zb_client.specs.Telling.{Heard}
 use Rattle.zb_client_laws.specs.Around.{Around}
-use Rattle.zb_client_laws.specs.Current.{FirstIsCurrent, IsReading, RestsOnHeld, WorkIsCurrent}
+use Rattle.zb_client_laws.specs.Current.{FirstIsCurrent, IsReading, WorkIsCurrent}
 use Rattle.zb_client_laws.specs.Effects.{AnswersRead, TellsNothing, TellsRight}
 use Rattle.zb_client_laws.specs.Known.{IsKnown}
 use Rattle.zb_client_laws.specs.Sound.{ClientIsSound, StepIsCurrent}
@@ -48,8 +44,8 @@ use Rattle.zb_system.specs.Looking.{FirstIsLookedUp, HasLookedUp, is_reading, re
 use Rattle.zb_system.specs.Sound.{AreSound, ServersAreSound, StaysSound}
 use Rattle.zb_system.specs.Steps.{Fetches, IsServed}
 use Rattle.zb_system.proofs.AnyTree.{any_tree}
-use Rattle.zb_system.proofs.FirstReads.{Looked, Reads, looked_still, looked_up, none_kept, not_looked}
-use Rattle.zb_system.proofs.Quiet.{StandsStill, Tree_now, World, answer_stays, at as read_at, calls_ready, known_ready, looked_ready, quiet_stays, sound_ready}
+use Rattle.zb_system.proofs.FirstReads.{Looked, Reads, looked_still, looked_up, none_kept}
+use Rattle.zb_system.proofs.Quiet.{StandsStill, World, answer_stays, at as read_at, known_ready, looked_ready, quiet_stays, sound_ready}
 
 -- what was looked up is of the members
 first_members_are : (b : ℕ) (contents : Contents) (t : Tables) (seen : Tree) (queue : List Numbered) (basis : Basis) → FirstIsCurrent b contents t seen queue basis → first_members basis.found ≡ t.members
@@ -211,8 +207,8 @@ module _ {given : Given} {lines : List Outcome} {old : SeenNodes} (s : AreSound 
           (subst (λ (x : Option LookedUp). is_number x r.read.number ≡ true) (sym l.is) (same_number l.one.number r.read.number first.0))
           refl
           Seen right.0 where
-        same_number : (a b : ℕ) → a ≡ b → (a == b) ≡ true
-        same_number a b e = eq-eqb a b e
+            same_number : (a b : ℕ) → a ≡ b → (a == b) ≡ true
+            same_number a b e = eq-eqb a b e
 
     pub fetch_stays : StaysSound s new i (lines_in heard.told)
     fetch_stays = by right.1 where

@@ -1,5 +1,5 @@
 -- The read that a client has looked up, as its steps go.
-use Rattle.std.proofs.Common.{◌≡◌, ℕ, suc, ◌+◌, true, false, Bool, List, [], ◌∷◌, ◌++◌, length, Option, Some, None, refl, sym, ap, ◌∙◌, subst, arith, inl, inr}
+use Rattle.std.proofs.Common.{◌≡◌, ℕ, suc, true, false, List, [], ◌∷◌, ◌++◌, length, Option, Some, None, refl, sym, ap, ◌∙◌, subst, arith, inl, inr}
 use Rattle.std.specs.Prelude.{◌⊎◌, take}
 use Rattle.std.specs.List.{list_any}
 use Rattle.std.proofs.lemmas.Bool.{false≢true}
@@ -16,7 +16,7 @@ use Rattle.zb_work.specs.declared.work.Aim.{Aim}
 use Rattle.zb_work.specs.declared.work.Aim.TheVariants.{Update, Read, Finish}
 use Rattle.zb_work.specs.declared.work.Step.{Step}
 use Rattle.zb_work.specs.Fitting.{AimFits, BeginsRead}
-use Rattle.zb_work.specs.Steps.{aim_of, step_of}
+use Rattle.zb_work.specs.Steps.{aim_of}
 use Rattle.zb_client.specs.Seen.{SeenClient}
 use Rattle.zb_client_laws.specs.Effects.{SameCalls}
 use Rattle.zb_line_laws.specs.Calls.{AimHas, AreGivenBehind, HasItsCalls, IsGiven, numbers_of}
@@ -136,7 +136,7 @@ begun (read ∷ rest) b = record { read = read; rest = rest; is = refl; reads = 
 
 pub first_read : (given : Given) (lines : List Outcome) (c : SeenClient) (aim : Aim) → aim_of c.task ≡ Some aim → c.kept ≡ [] → AimFits c.kept c.queue (aim_of c.task) → Reads given lines c
 first_read given lines c aim some none fits = elim (aim_reads (aim_of c.task) c.kept c.queue none fits) as (λ _. Reads given lines c) [
-    inl e ↦ absurd (cc (sym some ∙ e))
+  | inl e ↦ absurd (cc (sym some ∙ e))
   | inr e ↦ let b = begun c.queue e.1 in record { aim = e.0; read = b.read; rest = b.rest; queue = b.is; is_read = b.reads }
 ]
 

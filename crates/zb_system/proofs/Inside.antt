@@ -1,5 +1,5 @@
 -- A client takes its next call, or memory.
-use Rattle.std.proofs.Common.{◌≡◌, ℕ, ◌≤◌, true, false, Bool, List, [], ◌∷◌, ◌++◌, length, Option, Some, None, refl, sym, ap, ◌∙◌, subst, inl, inr}
+use Rattle.std.proofs.Common.{◌≡◌, ℕ, ◌≤◌, true, false, Bool, List, [], ◌∷◌, ◌++◌, length, None, refl, sym, ap, ◌∙◌, subst, inl, inr}
 use Rattle.std.specs.Prelude.{◌&&◌, if◌then◌else◌, nat_lt, slice_set}
 use Rattle.zb_types.specs.Apply.{is_bufferable, is_update}
 use Rattle.zb_types.specs.Limits.{most_kept}
@@ -15,7 +15,7 @@ use Rattle.zb_basis.specs.declared.calls.Numbered.{Numbered}
 use Rattle.zb_work.specs.declared.work.Aim.TheVariants.{Read, Update}
 use Rattle.zb_work.specs.declared.work.Step.TheVariants.{Lookup}
 use Rattle.zb_work.specs.Steps.{new_task, step_of}
-use Rattle.zb_client.specs.Hearing.{keeps, takes_call, takes_first}
+use Rattle.zb_client.specs.Hearing.{keeps, takes_first}
 use Rattle.zb_client.specs.Seen.{SeenClient}
 use Rattle.zb_client.specs.Telling.{Heard, line, silent, tells}
 use Rattle.zb_client_laws.specs.Sound.{ClientIsSound}
@@ -78,6 +78,7 @@ module _ {given : Given} {lines : List Outcome} {old : SeenNodes} (s : AreSound 
     rests (call ∷ rest) = by (is_update call.call) where
       Kept : SeenClient
       Kept = record (readied c) { kept = c.kept ++ call ∷ []; queue = rest }
+
       by : (update : Bool) → is_reading (if update then keeps Kept call else silent (record (readied c) { task = new_task Read })).client ≡ false
       by true = kept_rests Kept call.number (is_bufferable call.call && nat_lt (length Kept.kept) most_kept) (ap step_of none)
       by false = not_fetch c.kept Lookup refl
@@ -87,9 +88,11 @@ module _ {given : Given} {lines : List Outcome} {old : SeenNodes} (s : AreSound 
     same_client (call ∷ rest) = by (is_update call.call) where
       Kept : SeenClient
       Kept = record (readied c) { kept = c.kept ++ call ∷ []; queue = rest }
+
       of : (few : Bool) → (if few then tells Kept (line Kept call.number said.Buffered ∷ []) else silent (record Kept { task = new_task (Update call.number) })).client.client ≡ c.client
       of true = refl
       of false = refl
+
       by : (update : Bool) → (if update then keeps Kept call else silent (record (readied c) { task = new_task Read })).client.client ≡ c.client
       by true = of (is_bufferable call.call && nat_lt (length Kept.kept) most_kept)
       by false = refl
@@ -106,7 +109,7 @@ module _ {given : Given} {lines : List Outcome} {old : SeenNodes} (s : AreSound 
         (subst (FitsAfter given lines) (sym takes.heard_is) (taken_fits given lines (readied c) s.told.fit (calls_ready s i c is) none))
         None not
         (any_tree (World s i c is) (tree_for given lines (s.reads i)) (tree_for given (lines ++ lines_in heard.told) None) heard.client not
-            (subst (λ (h : Heard). ClientIsSound (World s i c is) (tree_for given lines (s.reads i)) h.client) (sym takes.heard_is)
-            (taken_sound (World s i c is) (tree_for given lines (s.reads i)) (readied c) (sound_ready s i c is) none)))
+        (subst (λ (h : Heard). ClientIsSound (World s i c is) (tree_for given lines (s.reads i)) h.client) (sym takes.heard_is)
+        (taken_sound (World s i c is) (tree_for given lines (s.reads i)) (readied c) (sound_ready s i c is) none)))
         (quiet.lookups lines (s.reads i))
         (inr tt)

@@ -7,7 +7,7 @@ use Rattle.std.proofs.lemmas.Option.{same_Some}
 use Rattle.zb_types.specs.Tree.{Tree}
 use Rattle.zb_types.specs.declared.lines.Outcome.{Outcome}
 use Rattle.zb_claims.specs.Points.{is_of_client, tree_at}
-use Rattle.zb_given.specs.Given.{FitGiven, Given, script_of}
+use Rattle.zb_given.specs.Given.{Given, script_of}
 use Rattle.zb_given.specs.Calls.{LookedUp}
 use Rattle.zb_given.specs.Telling.{AreOfLookups, IsOfNow}
 use Rattle.zb_tables.specs.Tables.{Contents}
@@ -20,8 +20,8 @@ use Rattle.zb_line_laws.specs.Calls.{FitsAfter, HasItsCalls, TellsOwn, lines_in}
 use Rattle.zb_line_laws.proofs.Staying.{beside}
 use Rattle.zb_progress.specs.Fresh.{RoseBy}
 use Rattle.zb_system.specs.Nodes.{IsClient, SeenNodes, around}
-use Rattle.zb_system.specs.Looking.{HasLookedUp, is_reading, tree_for}
-use Rattle.zb_system.specs.Sound.{AreSound, ClientsHaveCalls, LinesAreSound, ServersAreSound, StaysSound}
+use Rattle.zb_system.specs.Looking.{HasLookedUp, tree_for}
+use Rattle.zb_system.specs.Sound.{AreSound, ClientsHaveCalls, ServersAreSound, StaysSound}
 use Rattle.zb_system.proofs.AnyTree.{any_tree}
 use Rattle.zb_system.proofs.FirstReads.{looked_over, seen_same}
 use Rattle.zb_system.proofs.Telling.{calm_more}

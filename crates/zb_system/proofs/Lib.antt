@@ -12,3 +12,5 @@ pub mod Inside
 pub mod Looking
 pub mod Asking
 pub mod Storing
+pub mod Committing
+pub mod EachStep

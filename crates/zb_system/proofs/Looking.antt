@@ -1,20 +1,15 @@
 -- A client looks files or names up.
-use Rattle.std.proofs.Common.{◌≡◌, ℕ, true, false, Bool, List, [], ◌∷◌, ◌++◌, length, Option, Some, None, refl, sym, ap, ◌∙◌, subst, inl, inr}
-use Rattle.std.specs.Prelude.{◌⊎◌, if◌then◌else◌, slice_set}
+use Rattle.std.proofs.Common.{◌≡◌, ℕ, true, false, Bool, List, [], length, Option, Some, None, refl, sym, ap, ◌∙◌, subst, inl, inr}
+use Rattle.std.specs.Prelude.{if◌then◌else◌, slice_set}
 use Rattle.zb_types.specs.Apply.{reply_to}
 use Rattle.zb_types.specs.Tree.{Tree}
-use Rattle.zb_types.specs.declared.calls.Call.{Call}
 use Rattle.zb_types.specs.declared.lines.Outcome.{Outcome}
 use Rattle.zb_claims.specs.Points.{tree_at}
 use Rattle.zb_given.specs.Given.{Given, script_of}
 use Rattle.zb_given.specs.Calls.{LookedUp}
-use Rattle.zb_given.specs.Telling.{IsOfNow, is_number, seen_by}
-use Rattle.zb_tables.specs.Tables.{Tables}
-use Rattle.zb_tables.specs.Taking.{Sizes}
+use Rattle.zb_given.specs.Telling.{is_number, seen_by}
 use Rattle.zb_manager.specs.Managers.{SeenManager}
 use Rattle.zb_manager.specs.Seen.{held_by}
-use Rattle.zb_basis.specs.declared.asks.Ask.{Ask}
-use Rattle.zb_basis.specs.declared.calls.Numbered.{Numbered}
 use Rattle.zb_work.specs.declared.work.Step.TheVariants.{Lookup}
 use Rattle.zb_work.specs.declared.work.Task.{Task}
 use Rattle.zb_work.specs.Steps.{aim_of, step_of}
@@ -24,15 +19,15 @@ use Rattle.zb_client.specs.Seen.{SeenClient}
 use Rattle.zb_client.specs.Telling.{Heard}
 use Rattle.zb_client.specs.Wishing.{lookup_of}
 use Rattle.zb_client_laws.specs.Around.{Around}
-use Rattle.zb_client_laws.specs.Effects.{AnswersRead, TellsNothing, TellsRight}
+use Rattle.zb_client_laws.specs.Effects.{TellsNothing, TellsRight}
 use Rattle.zb_client_laws.specs.Known.{IsKnown}
 use Rattle.zb_client_laws.specs.Sound.{ClientIsSound}
 use Rattle.zb_client_laws.proofs.Looking.{found_sound, named_sound}
 use Rattle.zb_line_laws.specs.Calls.{lines_in}
 use Rattle.zb_system.specs.Nodes.{IsClient, SeenNodes, readied}
-use Rattle.zb_system.specs.Looking.{FirstIsLookedUp, HasLookedUp, is_reading, reads_with, tree_for}
+use Rattle.zb_system.specs.Looking.{FirstIsLookedUp, is_reading, reads_with, tree_for}
 use Rattle.zb_system.specs.Sound.{AreSound, StaysSound}
-use Rattle.zb_system.specs.Steps.{LooksUp, LooksUpFiles, LooksUpNames}
+use Rattle.zb_system.specs.Steps.{LooksUp}
 use Rattle.zb_system.proofs.Inside.{still}
 use Rattle.zb_system.proofs.FirstReads.{Reads, first_read, looked_now, looked_still, none_kept, not_fetch, not_looked, seen_now}
 use Rattle.zb_system.proofs.Quiet.{StandsStill, Tree_now, World, answer_stays, at as read_at, calls, calls_ready, known_ready, looked_ready, quiet_stays, sound_ready}
@@ -93,9 +88,9 @@ module _ {given : Given} {lines : List Outcome} {old : SeenNodes} (s : AreSound 
       now_stays
       (still old new (ap (λ (m : SeenManager). m.tables) looks.same.manager) (ap (λ (m : SeenManager). m.sizes) looks.same.manager) looks.same.servers s.servers)
       (named (named_sound old.servers.slots W s.stands (tree_for given lines (s.reads i)) (readied c) (known_ready c known) (sound_ready s i c is) task work at_lookup call looks.reply
-          (looks.right s.contents ∙ ap (λ (t : Tree). reply_to t call) s.stands.stands.says.shows) heard wants looks.heard_is)) where
-    named : ClientIsSound W (tree_for given lines (s.reads i)) heard.client × TellsRight (Tree_now s i c is) (readied c) heard → ClientIsSound W (Tree_now s i c is) heard.client × TellsRight (Tree_now s i c is) (readied c) heard
-    named right = (subst (λ (t : Tree). ClientIsSound W t heard.client) (ap (tree_for given lines) unread) right.0, right.1)
+      (looks.right s.contents ∙ ap (λ (t : Tree). reply_to t call) s.stands.stands.says.shows) heard wants looks.heard_is)) where
+        named : ClientIsSound W (tree_for given lines (s.reads i)) heard.client × TellsRight (Tree_now s i c is) (readied c) heard → ClientIsSound W (Tree_now s i c is) heard.client × TellsRight (Tree_now s i c is) (readied c) heard
+        named right = (subst (λ (t : Tree). ClientIsSound W t heard.client) (ap (tree_for given lines) unread) right.0, right.1)
 
   pub looks_stay : LooksUp old new (readied c) task (lookup_of (readied c) task.tries c.kept) heard → StaysSound s new i (lines_in heard.told)
   looks_stay looks = lookup_stays (lookup_of (readied c) task.tries c.kept) refl looks

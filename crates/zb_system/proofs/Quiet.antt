@@ -1,10 +1,9 @@
 -- A step of a client that leaves servers and tables as they stand.
-use Rattle.std.proofs.Common.{◌≡◌, ◌≢◌, ℕ, true, false, Bool, List, [], ◌∷◌, ◌++◌, append-nil, length, Option, Some, None, refl, sym, ap, ◌∙◌, subst, inl, inr}
+use Rattle.std.proofs.Common.{◌≡◌, ℕ, true, false, List, [], ◌∷◌, ◌++◌, append-nil, Option, Some, None, refl, sym, ap, ◌∙◌, subst, inl, inr}
 use Rattle.std.specs.Prelude.{◌⊎◌, ◌==◌, slice_set}
 use Rattle.std.specs.List.{AllByRecursion, list_any}
-use Rattle.zb_types.specs.Apply.{is_update, reply_to}
+use Rattle.zb_types.specs.Apply.{reply_to}
 use Rattle.zb_types.specs.Tree.{Tree}
-use Rattle.zb_types.specs.declared.calls.Reply.{Reply}
 use Rattle.zb_types.specs.declared.lines.Outcome.{Outcome}
 use Rattle.zb_types.specs.declared.lines.Said.TheVariants as said
 use Rattle.zb_holding.specs.Holding.{Maps}
@@ -23,9 +22,9 @@ use Rattle.zb_work.specs.Fitting.{AimFits}
 use Rattle.zb_work.specs.Steps.{aim_of}
 use Rattle.zb_client.specs.declared.steps.Told.TheVariants.{Nothing}
 use Rattle.zb_client.specs.Seen.{SeenClient}
-use Rattle.zb_client.specs.Telling.{Heard, answers_first, answers_read}
+use Rattle.zb_client.specs.Telling.{Heard, answers_first}
 use Rattle.zb_client_laws.specs.Around.{Around, IsAround}
-use Rattle.zb_client_laws.specs.Effects.{AnswersRead, IsReplyIn, SameCalls, TellsNothing}
+use Rattle.zb_client_laws.specs.Effects.{AnswersRead, IsReplyIn, SameCalls}
 use Rattle.zb_client_laws.specs.Known.{IsKnown}
 use Rattle.zb_client_laws.specs.Sound.{ClientIsSound}
 use Rattle.zb_client_laws.proofs.Moves.{ready_sound}
@@ -38,7 +37,7 @@ use Rattle.zb_system.specs.Nodes.{IsClient, SeenNodes, around, readied}
 use Rattle.zb_system.specs.Looking.{HasLookedUp, is_reading, tree_for}
 use Rattle.zb_system.specs.Sound.{AreSound, ServersAreSound, StaysSound}
 use Rattle.zb_system.proofs.AnyTree.{any_tree}
-use Rattle.zb_system.proofs.Joining.{Now, joined}
+use Rattle.zb_system.proofs.Joining.{joined}
 use Rattle.zb_system.proofs.FirstReads.{Reads, first_read, is_given, not_fetch, same_looked}
 use Rattle.zb_system.proofs.Telling.{answered_looks, answered_none, tree_same}
 
@@ -118,9 +117,9 @@ module _ {given : Given} {lines : List Outcome} {old : SeenNodes} (s : AreSound 
           (subst (λ (ls : List Outcome). ClientIsSound World (tree_for given ls read) d) (sym as_before) own)
           tt
           (by looks) where
-        by : (read ≡ s.reads i) ⊎ IsOfNow read lines → ((lines_in Nothing ≡ []) × (read ≡ s.reads i)) ⊎ IsOfNow read (lines ++ [])
-        by (inl e) = inl (refl, e)
-        by (inr now) = inr (subst (λ (ls : List Outcome). IsOfNow read ls) (sym as_before) now)
+            by : (read ≡ s.reads i) ⊎ IsOfNow read lines → ((lines_in Nothing ≡ []) × (read ≡ s.reads i)) ⊎ IsOfNow read (lines ++ [])
+            by (inl e) = inl (refl, e)
+            by (inr now) = inr (subst (λ (ls : List Outcome). IsOfNow read ls) (sym as_before) now)
 
     -- a read is answered
     module _ (heard : Heard) (clients_are : new.clients ≡ slice_set old.clients i heard.client) (known : IsKnown c) (task : Task) (work : c.task ≡ Some task) (seen : Tree) (d : SeenClient)
@@ -172,5 +171,5 @@ module _ {given : Given} {lines : List Outcome} {old : SeenNodes} (s : AreSound 
           (any_tree World tree (tree_for given (lines ++ lines_in heard.told) None) heard.client not own)
           (subst (λ (h : Heard). AreOfLookups given lines (s.reads i) (lines_in h.told)) (sym ans.is) (answered_looks given lines d at.read at.rest at.queue ans.reply given_read at.is_read (s.reads i) number (right ∙ ap (λ (t : Tree). reply_to t at.read.call) sees_as)))
           (inr tt) where
-        given_read : IsGiven given d.client at.read
-        given_read = is_given given lines d calls at.aim at.read at.rest at.queue
+            given_read : IsGiven given d.client at.read
+            given_read = is_given given lines d calls at.aim at.read at.rest at.queue

@@ -1,5 +1,5 @@
 -- A client makes the next request of a batch.
-use Rattle.std.proofs.Common.{◌≡◌, ◌≢◌, ℕ, suc, ◌≤◌, true, false, Bool, List, [], ◌∷◌, ◌++◌, append-nil, length, Option, Some, None, refl, sym, ap, ◌∙◌, subst, inl, inr}
+use Rattle.std.proofs.Common.{◌≡◌, ◌≢◌, ℕ, ◌≤◌, true, false, Bool, List, [], ◌∷◌, ◌++◌, append-nil, length, Option, Some, None, refl, sym, ap, ◌∙◌, subst, inl, inr}
 use Rattle.std.specs.Prelude.{◌⊎◌, if◌then◌else◌, slice_get, slice_set, take}
 use Rattle.std.proofs.lemmas.Bool.{cases_eq}
 use Rattle.zb_types.specs.Tree.{Tree}
@@ -16,7 +16,6 @@ use Rattle.zb_types.specs.declared.requests.Response.{Response}
 use Rattle.zb_types.specs.declared.requests.Response.TheVariants as told
 use Rattle.zb_types.specs.declared.requests.StoreFault.TheVariants as fault
 use Rattle.zb_holding.specs.Carrying.{carried}
-use Rattle.zb_holding.specs.Holding.{Maps}
 use Rattle.zb_holding.specs.Rules.{AreSame, fence_after, has_after, is_done}
 use Rattle.zb_stripe.specs.declared.flush.Flush.{Flush}
 use Rattle.zb_stripe.specs.declared.write_plan.Fed.{Fed}
@@ -25,13 +24,13 @@ use Rattle.zb_stripe.specs.Feeding.{fed_by}
 use Rattle.zb_stripe.specs.Writing.{plan_requests}
 use Rattle.zb_claims.specs.Points.{tree_at}
 use Rattle.zb_given.specs.Given.{FitGiven, Given, script_of}
-use Rattle.zb_tables.specs.Tables.{Contents, Tables}
+use Rattle.zb_tables.specs.Tables.{Tables}
 use Rattle.zb_tables.specs.Taking.{Sizes}
 use Rattle.zb_manager.specs.Managers.{SeenManager}
 use Rattle.zb_manager.specs.Seen.{held_by}
 use Rattle.zb_turns.specs.Turns.{other_holder}
 use Rattle.zb_servers.specs.Serving.{is_refused}
-use Rattle.zb_servers.specs.Standing.{SeenServer, SeenServers, has, maps_of, server_at}
+use Rattle.zb_servers.specs.Standing.{SeenServer, has, maps_of, server_at}
 use Rattle.zb_servers_laws.specs.Answered.{IsWrite, lacks_slot}
 use Rattle.zb_servers_laws.specs.Indexed.{AllFitIndex}
 use Rattle.zb_servers_laws.proofs.Indexing.{all_kept, plan_puts}
@@ -46,7 +45,7 @@ use Rattle.zb_work.specs.declared.work.Step.{Step}
 use Rattle.zb_work.specs.declared.work.Step.TheVariants as step
 use Rattle.zb_work.specs.declared.work.Task.{Task}
 use Rattle.zb_work.specs.Fitting.{AimFits}
-use Rattle.zb_work.specs.Steps.{aim_of, first_members, step_of, with_step}
+use Rattle.zb_work.specs.Steps.{aim_of, step_of, with_step}
 use Rattle.zb_client.specs.Hearing.{HearsStore, goes_on_storing, notes}
 use Rattle.zb_client.specs.Seen.{SeenClient}
 use Rattle.zb_client.specs.Telling.{Heard, answers_first, gives_up, gives_up_aim, gives_up_for}
@@ -55,7 +54,7 @@ use Rattle.zb_client.specs.declared.steps.Told.TheVariants.{Nothing}
 use Rattle.zb_client_laws.specs.Around.{Around, IsAround}
 use Rattle.zb_client_laws.specs.Effects.{GivesUp, TellsNothing, after_request}
 use Rattle.zb_client_laws.specs.Known.{IsKnown}
-use Rattle.zb_client_laws.specs.Sound.{ClientIsSound, ClientsAreSound, StepIsCurrent}
+use Rattle.zb_client_laws.specs.Sound.{ClientIsSound, StepIsCurrent}
 use Rattle.zb_client_laws.proofs.Joined.{store_together}
 use Rattle.zb_client_laws.proofs.Storing.{Out, Stored, around_after, delivering, done_sound, finds, full_sound, full_told, standing}
 use Rattle.zb_line_laws.specs.Calls.{FitsAfter, HasItsCalls, TellsOwn, lines_in}
@@ -63,15 +62,15 @@ use Rattle.zb_line_laws.proofs.Answering.{given_up_finish, given_up_read, given_
 use Rattle.zb_line_laws.proofs.Owning.{given_up}
 use Rattle.zb_line_laws.proofs.Staying.{quiet_step}
 use Rattle.zb_progress.specs.Fresh.{RoseBy}
-use Rattle.zb_system.specs.Nodes.{IsClient, SeenNodes, around, readied}
+use Rattle.zb_system.specs.Nodes.{IsClient, SeenNodes, readied}
 use Rattle.zb_system.specs.Looking.{is_fetch, is_reading, reads_with, tree_for}
 use Rattle.zb_system.specs.Sound.{AreSound, ServersAreSound, StaysSound}
-use Rattle.zb_system.specs.Steps.{IsServed, Stores}
+use Rattle.zb_system.specs.Steps.{Stores}
 use Rattle.zb_system.proofs.AnyTree.{any_tree}
 use Rattle.zb_system.proofs.FirstReads.{Begun, begun, not_fetch}
 use Rattle.zb_system.proofs.Inside.{still}
 use Rattle.zb_system.proofs.Joining.{elsewhere, joined}
-use Rattle.zb_system.proofs.Quiet.{Tree_now, World, calls_ready, known_ready, own_of, sound_ready, tells_lines, with_parts}
+use Rattle.zb_system.proofs.Quiet.{World, calls_ready, own_of, sound_ready, tells_lines, with_parts}
 use Rattle.zb_system.proofs.Telling.{IsSilentOn, given_up_silent, tree_same}
 
 abbrev Requests : Type 0
@@ -213,6 +212,7 @@ module _ {given : Given} {lines : List Outcome} {old : SeenNodes} (s : AreSound 
       fence_at server = by (cases_eq server.0 A.0.0) where
         same : AreSame (has new.servers A.0) (has_after A.1 (has old.servers A.0))
         same = subst (λ (b : Bool). AreSame (has new.servers A.0) (if b then has_after A.1 (has old.servers A.0) else has old.servers A.0)) (ap is_done done) f.served.left
+
         by : (server.0 ≡ A.0.0) ⊎ (server.0 ≢ A.0.0) → (server_at new.servers.servers server).fence ≡ (server_at old.servers.servers server).fence
         by (inl here) =
             let one : server ≡ A.0 = λ k. record { 0 = here k } in
@@ -242,7 +242,7 @@ module _ {given : Given} {lines : List Outcome} {old : SeenNodes} (s : AreSound 
       others : (j : ℕ) (d : SeenClient) → j ≢ i → IsClient old j d → ClientIsSound (after_request W A) (tree_for given lines (s.reads j)) d
       others j d ne at =
           (store_together (λ j. tree_for given lines (s.reads j)) old.clients i c heard.client is right.1.same.client old.servers.slots W s.stands s.clients Flushing refl Leaves_out Client formed.plan A
-              (standing W Seen C S basis formed step_is).stands.works First right.0 j d (elsewhere old.clients i heard.client old.clients i j ne ∙ at)).0
+          (standing W Seen C S basis formed step_is).stands.works First right.0 j d (elsewhere old.clients i heard.client old.clients i j ne ∙ at)).0
 
       not : is_reading heard.client ≡ false
       not = ap (λ (h : Heard). is_reading h.client) hears ∙ store_rests (notes C formed (fed_by formed.plan told.Done)) basis formed told.Done (fed_by formed.plan told.Done)

@@ -1,7 +1,7 @@
 -- What the lines of a step do to the history, and of which lookups their replies are.
-use Rattle.std.proofs.Common.{◌≡◌, ℕ, zero, suc, true, false, Bool, List, [], ◌∷◌, ◌++◌, append-nil, length, Option, Some, None, refl, sym, ap, ◌∙◌, subst}
-use Rattle.std.specs.Prelude.{◌&&◌, nat_lt, take, if◌then◌else◌}
-use Rattle.std.specs.List.{AllByRecursion, flat_map, list_any}
+use Rattle.std.proofs.Common.{◌≡◌, ℕ, true, false, Bool, List, [], ◌∷◌, ◌++◌, append-nil, length, Option, Some, None, refl, sym, ap, ◌∙◌, subst}
+use Rattle.std.specs.Prelude.{◌&&◌, nat_lt, if◌then◌else◌}
+use Rattle.std.specs.List.{AllByRecursion}
 use Rattle.std.proofs.lemmas.Grind.{flat_map-append}
 use Rattle.std.proofs.lemmas.List.Folds.{list_any-append}
 use Rattle.std.proofs.lemmas.Bool.{false≢true}
@@ -20,18 +20,17 @@ use Rattle.zb_types.specs.declared.lines.Told.TheVariants as event
 use Rattle.zb_types.specs.declared.nodes.Cause.{Cause}
 use Rattle.zb_types.specs.declared.nodes.Node.TheVariants.{Manager}
 use Rattle.zb_claims.specs.Points.{call_of, crashes, did_if, did_of, dids, is_event, is_of_client, tree_at}
-use Rattle.zb_laws.proofs.Tests.{equals}
 use Rattle.zb_given.specs.Given.{Given, script_of}
 use Rattle.zb_given.specs.Calls.{LookedUp}
-use Rattle.zb_given.specs.Telling.{AnswersRead, AreOfLookups, IsOfLookup, is_number, seen_by}
+use Rattle.zb_given.specs.Telling.{AreOfLookups, IsOfLookup, is_number, seen_by}
 use Rattle.zb_basis.specs.declared.calls.Numbered.{Numbered}
 use Rattle.zb_work.specs.declared.work.Aim.{Aim}
 use Rattle.zb_work.specs.declared.work.Aim.TheVariants.{Update, Read, Finish}
 use Rattle.zb_work.specs.declared.work.Task.{Task}
 use Rattle.zb_work.specs.Steps.{new_task}
 use Rattle.zb_client.specs.Seen.{SeenClient}
-use Rattle.zb_client.specs.Hearing.{commits, keeps, takes_call, takes_first}
-use Rattle.zb_client.specs.Telling.{Heard, answers_first, answers_read, gives_up, gives_up_aim, gives_up_for, line, reply_lines, resting, silent, tells, unfinished_lines}
+use Rattle.zb_client.specs.Hearing.{keeps, takes_call, takes_first}
+use Rattle.zb_client.specs.Telling.{answers_first, answers_read, gives_up, gives_up_aim, gives_up_for, line, reply_lines, resting, silent, tells, unfinished_lines}
 use Rattle.zb_line_laws.specs.Calls.{IsCalm, IsGiven, lines_in}
 
 -- ---- lines of calls are no events
@@ -85,6 +84,7 @@ module _ (given : Given) where
     by (call ∷ rest) = of (is_update call.call) where
       Kept : SeenClient
       Kept = record c { kept = c.kept ++ call ∷ []; queue = rest }
+
       of : (update : Bool) → IsSilentOn given (lines_in (if update then keeps Kept call else silent (record c { task = new_task Read })).told)
       of true = kept_silent Kept (record Kept { task = new_task (Update call.number) }) call.number (is_bufferable call.call && nat_lt (length Kept.kept) most_kept)
       of false = nothing_told given
@@ -110,6 +110,7 @@ module _ (given : Given) where
     of (Update n) = one_silent given (line c n (said.Kept cause)) refl (λ lines read. tt)
     of Read = failed_silent c cause c.queue
     of Finish = unfinished_silent c.client cause c.kept
+
     by : (task : Option Task) → IsSilentOn given (lines_in (gives_up_for c task cause).told)
     by None = nothing_told given
     by (Some task) = of task.aim
@@ -147,6 +148,6 @@ module _ (given : Given) (client : ℕ) where
   replies_look [] replies lines looked given_all updates = tt
   replies_look (call ∷ calls) [] lines looked given_all updates = tt
   replies_look (call ∷ calls) (reply ∷ replies) lines looked given_all updates = (
-      (λ other of reads. absurd (false≢true (sym reads ∙ ap is_update (same_Some other call.call (sym of ∙ given_all.0)) ∙ updates.0))),
-      replies_look calls replies (lines ++ OfCall client call.number (said.Reply reply) ∷ []) None given_all.1 updates.1,
+    (λ other of reads. absurd (false≢true (sym reads ∙ ap is_update (same_Some other call.call (sym of ∙ given_all.0)) ∙ updates.0))),
+    replies_look calls replies (lines ++ OfCall client call.number (said.Reply reply) ∷ []) None given_all.1 updates.1,
   )

@@ -1,5 +1,5 @@
 -- The first nodes of a system.
-use Rattle.std.specs.Prelude.{◌≡◌, ℕ, zero, suc, ◌+◌, ◌<◌, List, [], length, replicate, slice_get, Some, None}
+use Rattle.std.specs.Prelude.{◌≡◌, ℕ, zero, suc, ◌+◌, length, replicate, None}
 use Rattle.zb_types.specs.declared.ids.LogId.{LogId}
 use Rattle.zb_types.specs.Limits.{InLimits}
 use Rattle.zb_tables.specs.Tables.{Tables, first_tables}

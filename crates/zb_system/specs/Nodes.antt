@@ -1,5 +1,5 @@
 -- The nodes of a system, and what the steps of clients meet among them.
-use Rattle.std.specs.Prelude.{◌≡◌, ℕ, ◌+◌, List, slice_get, slice_set, Some, true, false}
+use Rattle.std.specs.Prelude.{◌≡◌, ℕ, List, slice_get, slice_set, Some, true, false}
 use Rattle.zb_types.specs.Tree.{Tree}
 use Rattle.zb_tables.specs.Tables.{Contents}
 use Rattle.zb_recovery.specs.Missing.{Servers}

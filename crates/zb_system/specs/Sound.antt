@@ -14,7 +14,7 @@ use Rattle.zb_client_laws.specs.Around.{IsAround}
 use Rattle.zb_client_laws.specs.Sound.{ClientsAreSound}
 use Rattle.zb_line_laws.specs.Calls.{HasItsCalls, IsCalm}
 use Rattle.zb_progress.specs.Fresh.{RoseBy}
-use Rattle.zb_system.specs.Nodes.{IsClient, SeenNodes, around}
+use Rattle.zb_system.specs.Nodes.{SeenNodes, around}
 use Rattle.zb_system.specs.Looking.{HasLookedUp, tree_for}
 
 -- The servers of a sound system: as many as there are to be, each fragment where its index says, and none that refuses the

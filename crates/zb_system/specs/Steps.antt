@@ -1,10 +1,9 @@
 -- What a step of a client does among the nodes, kind by kind.
-use Rattle.std.specs.Prelude.{◌≡◌, ◌⊎◌, ℕ, ◌<◌, Bool, true, false, if◌then◌else◌, List, [], ◌∷◌, length, slice_get, slice_set, Option, Some, None}
+use Rattle.std.specs.Prelude.{◌≡◌, ◌⊎◌, ℕ, ◌<◌, Bool, true, false, if◌then◌else◌, List, length, slice_set, Option, Some, None}
 use Rattle.zb_types.specs.declared.calls.Call.{Call}
 use Rattle.zb_types.specs.declared.calls.Reply.{Reply}
 use Rattle.zb_types.specs.declared.ids.ServerId.{ServerId}
 use Rattle.zb_types.specs.declared.lines.Said.TheVariants as said
-use Rattle.zb_types.specs.declared.lines.Kind.TheVariants.{Idle}
 use Rattle.zb_types.specs.declared.requests.Request.{Request}
 use Rattle.zb_types.specs.declared.requests.Response.{Response}
 use Rattle.zb_types.specs.declared.tables.CommitFault.{CommitFault}
@@ -14,7 +13,7 @@ use Rattle.zb_holding.specs.Rules.{IsAnswer, IsLeft}
 use Rattle.zb_stripe.specs.Reading.{asked}
 use Rattle.zb_tables.specs.Tables.{Contents, shown_tree}
 use Rattle.zb_tables.specs.Taking.{commit_refusal}
-use Rattle.zb_manager.specs.Managers.{SeenManager, SameTables}
+use Rattle.zb_manager.specs.Managers.{SameTables}
 use Rattle.zb_manager.specs.Seen.{held_by}
 use Rattle.zb_turns.specs.Turns.{IsCommitted, other_holder, reads_names}
 use Rattle.zb_servers.specs.Standing.{AreOthersSame, SeenServers, has, maps_of}
@@ -32,7 +31,7 @@ use Rattle.zb_client.specs.declared.steps.Lookup.TheVariants.{Files, Names}
 use Rattle.zb_client.specs.declared.steps.Told.{Told}
 use Rattle.zb_client.specs.Answering.{IsOutdated}
 use Rattle.zb_client.specs.Hearing.{HearsFetch, HearsLookup, HearsStore, commits, hears_outdated, takes_call}
-use Rattle.zb_client.specs.Seen.{SeenClient, kind_of}
+use Rattle.zb_client.specs.Seen.{SeenClient}
 use Rattle.zb_client.specs.Telling.{Heard, answers_read}
 use Rattle.zb_client.specs.Wishing.{head_of, lookup_of}
 use Rattle.zb_client_laws.specs.Effects.{founds}

@@ -1,9 +1,8 @@
 -- From one client's step to all nodes.
-use Rattle.std.proofs.Common.{◌≡◌, ◌≢◌, ℕ, zero, suc, ◌+◌, true, false, Bool, List, [], ◌∷◌, ◌++◌, length, Option, Some, None, refl, sym, ap, ◌∙◌, subst, arith, inl, inr}
+use Rattle.std.proofs.Common.{◌≡◌, ◌≢◌, ℕ, zero, suc, ◌+◌, true, false, Bool, List, [], ◌∷◌, ◌++◌, length, Option, Some, None, refl, sym, ap, ◌∙◌, subst, arith}
 use Rattle.std.specs.Prelude.{◌⊎◌, ◌==◌, if◌then◌else◌, slice_get, slice_set}
 use Rattle.std.specs.List.{AllByRecursion, list_any}
-use Rattle.std.proofs.lemmas.Bool.{cases_eq, eq-eqb, ne_eqb}
-use Rattle.std.proofs.lemmas.Option.{same_Some}
+use Rattle.std.proofs.lemmas.Bool.{eq-eqb, ne_eqb}
 use Rattle.zb_types.specs.Tree.{Tree}
 use Rattle.zb_types.specs.declared.lines.Outcome.{Outcome}
 use Rattle.zb_claims.specs.Points.{is_of_client, tree_at}
@@ -23,6 +22,7 @@ use Rattle.zb_system.specs.Nodes.{IsClient, SeenNodes, around}
 use Rattle.zb_system.specs.Looking.{HasLookedUp, tree_for}
 use Rattle.zb_system.specs.Sound.{AreSound, ClientsHaveCalls, ServersAreSound, StaysSound}
 use Rattle.zb_system.proofs.AnyTree.{any_tree}
+use Rattle.zb_system.proofs.Changed.{each_place}
 use Rattle.zb_system.proofs.FirstReads.{looked_over, seen_same}
 use Rattle.zb_system.proofs.Telling.{calm_more}
 
@@ -36,28 +36,14 @@ at_one reads i read = ap (λ (b : Bool). if b then read else reads i) (eq-eqb i 
 pub at_other : (reads : ℕ → Option LookedUp) (i : ℕ) (read : Option LookedUp) (j : ℕ) → j ≢ i → reads_with_one reads i read j ≡ reads j
 at_other reads i read j ne = ap (λ (b : Bool). if b then read else reads j) (ne_eqb j i ne)
 
--- what is so at a place of a list that was set, and at all others, is so at each
+-- a list of which one element is another
 module _ (clients : List SeenClient) (i : ℕ) (after : SeenClient) where
-  there : (cs : List SeenClient) (k : ℕ) (d : SeenClient) → slice_get (slice_set cs k after) k ≡ Some d → d ≡ after
-  there [] k d e = absurd (cc e)
-  there (x ∷ cs) zero d e = same_Some d after (sym e)
-  there (x ∷ cs) (suc k) d e = there cs k d e
-
   pub elsewhere : (cs : List SeenClient) (k j : ℕ) → j ≢ k → slice_get (slice_set cs k after) j ≡ slice_get cs j
   elsewhere [] k j ne = refl
   elsewhere (x ∷ cs) zero zero ne = absurd (ne refl)
   elsewhere (x ∷ cs) zero (suc j) ne = refl
   elsewhere (x ∷ cs) (suc k) zero ne = refl
   elsewhere (x ∷ cs) (suc k) (suc j) ne = elsewhere cs k j (λ e. ne (ap suc e))
-
-  pub each_place : (P : ℕ → SeenClient → Type 0) → P i after → ((j : ℕ) (d : SeenClient) → j ≢ i → slice_get clients j ≡ Some d → P j d)
-      → (j : ℕ) (d : SeenClient) → slice_get (slice_set clients i after) j ≡ Some d → P j d
-  each_place P own others j d e = by (cases_eq j i) where
-    by : (j ≡ i) ⊎ (j ≢ i) → P j d
-    by (inl here) =
-        let same = there clients i d (ap (slice_get (slice_set clients i after)) (sym here) ∙ e) in
-        subst (λ (k : ℕ). P k d) (sym here) (subst (P i) (sym same) own)
-    by (inr ne) = others j d ne (sym (elsewhere clients i j ne) ∙ e)
 
   pub set_length : length (slice_set clients i after) ≡ length clients
   set_length = of clients i where
@@ -123,10 +109,10 @@ module _ {given : Given} {lines : List Outcome} {old : SeenNodes} (s : AreSound 
 
       calls_after : ClientsHaveCalls given (lines ++ More) Reads After
       calls_after = record {
-        calls = each_place old.clients i heard.client (λ j d. HasItsCalls given (lines ++ More) d) fits.1
+        calls = each_place (λ j d. HasItsCalls given (lines ++ More) d) old.clients i heard.client (λ x at. fits.1)
             (λ j d ne at_j. beside given lines More d (none_of j d ne at_j) (s.calls.calls j d at_j));
-        looked = each_place old.clients i heard.client (λ j d. HasLookedUp given (lines ++ More) d (Reads j))
-            (subst (HasLookedUp given (lines ++ More) heard.client) (sym (at_one s.reads i read)) looked)
+        looked = each_place (λ j d. HasLookedUp given (lines ++ More) d (Reads j)) old.clients i heard.client
+            (λ x at. subst (HasLookedUp given (lines ++ More) heard.client) (sym (at_one s.reads i read)) looked)
             (λ j d ne at_j. subst (HasLookedUp given (lines ++ More) d) (sym (at_other s.reads i read j ne)) (looked_over given lines More d (s.reads j) (none_of j d ne at_j) (s.calls.looked j d at_j)));
       }
 

@@ -14,3 +14,4 @@ pub mod Asking
 pub mod Storing
 pub mod Committing
 pub mod EachStep
+pub mod Resting

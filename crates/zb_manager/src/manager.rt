@@ -36,7 +36,7 @@ use zb_delta::{Body, Delta, DeltaList};
 use zb_log_tables::{HeldTable, LogTable};
 use zb_names::Names;
 use zb_pointers::{FileHead, Pointers};
-use zb_spelling::{Numbers, Parts, read, write};
+use zb_spelling::{Numbers, read, write};
 use zb_types::{
     ByteList, CommitFault, Fid, Found, Geometry, HeldList, HeldUse, LogId, LogUse, LogUseList, Mem, Members,
     NoMemory, Piece, PieceList, Ptr, Reply, State, Status,
@@ -510,6 +510,17 @@ impl Manager {
         let Some(parts) = read(alloc, geo, bytes)? else {
             return Ok(None);
         };
-        Ok(Some(Manager::of_parts(alloc, geo, parts)))
+        Ok(Some(Manager {
+            alloc,
+            sizes: *geo,
+            names: parts.names,
+            pointers: parts.pointers,
+            logs: parts.logs,
+            held: parts.held,
+            members: parts.numbers.members,
+            next_log: parts.numbers.next_log,
+            next_entry: parts.numbers.next_entry,
+            holder: None,
+        }))
     }
 }

@@ -6,6 +6,7 @@ use Rattle.zb_types.specs.declared.calls.Refusal.{Refusal}
 use Rattle.zb_types.specs.declared.calls.Refusal.TheVariants.{NoEntry, NotDir, IsDir, Exists, Inside, NotEmpty, Gone, TooBig, Full}
 use Rattle.zb_types.specs.declared.calls.Reply.{Reply}
 use Rattle.zb_types.specs.declared.calls.Reply.TheVariants.{Done, Made, Bytes, Names as NamesOf, Dir, File, Refused}
+use Rattle.zb_types.specs.declared.nodes.Members.{Members}
 use Rattle.zb_types.specs.declared.nodes.State.{State}
 use Rattle.zb_types.specs.declared.nodes.State.TheVariants.{Whole, Out, Mending}
 use Rattle.zb_types.specs.declared.tables.HeldUse.{HeldUse}
@@ -20,10 +21,19 @@ use Rattle.zb_tables.specs.Fold.{following}
 abbrev pub list_text : {A : Type 0} → (A → List ℕ) → List A → List ℕ
 list_text text items = number_text 4 (length items) ++ flat_map text items
 
--- 1 for a directory, 2 and its number for a file
+-- 1 for a directory, 2 for a file
+abbrev pub kind_of_entry : Entry → ℕ
+kind_of_entry directory = 1
+kind_of_entry (numbered number) = 2
+
+-- the number of a file, 0 for a directory
+abbrev pub number_of_entry : Entry → ℕ
+number_of_entry directory = 0
+number_of_entry (numbered number) = number
+
+-- the kind of what stands at a path, and its number
 abbrev pub entry_text : Entry → List ℕ
-entry_text directory = 1 ∷ number_text 4 0
-entry_text (numbered number) = 2 ∷ number_text 4 number
+entry_text entry = kind_of_entry entry ∷ number_text 4 (number_of_entry entry)
 
 -- a path, behind its length, and what stands there
 abbrev pub name_text : List ℕ × Entry → List ℕ
@@ -78,10 +88,14 @@ abbrev pub flag_of : Bool → ℕ
 flag_of true = 1
 flag_of false = 0
 
--- a log: number, owner, whether it lives, last batch, the stripe behind its last one, mark, and the replies of the batch
+-- whose a log is, and whether it lives
+abbrev pub owner_text : ℕ × Bool → List ℕ
+owner_text owner = owner.0 ∷ (flag_of owner.1 ∷ zeros 2)
+
+-- a log: number, owner, last batch, the stripe behind its last one, mark, and the replies of the batch
 abbrev pub log_text : ℕ × LogState → List ℕ
-log_text e = number_text 4 e.0 ++ ((e.1).owner ∷ (flag_of (e.1).live ∷ (zeros 2 ++ (number_text 8 (e.1).batch
-    ++ (number_text 8 (following (e.1).last) ++ (number_text 8 (e.1).mark ++ list_text reply_text (e.1).replies))))))
+log_text e = number_text 4 e.0 ++ (owner_text ((e.1).owner, (e.1).live) ++ (number_text 8 (e.1).batch
+    ++ (number_text 8 (following (e.1).last) ++ (number_text 8 (e.1).mark ++ list_text reply_text (e.1).replies))))
 
 -- a held stripe: log, stripe, committed end, and the first entry that names it
 abbrev pub held_text : HeldUse → List ℕ
@@ -94,9 +108,9 @@ state_text (Out a) = 1 ∷ a.0 ∷ []
 state_text (Mending a) = 2 ∷ a.0 ∷ []
 
 -- what stands before the lists: the numbers of the next file and the next log, the members, and the number of the next entry
-abbrev pub head_text : Tables → List ℕ
-head_text t = number_text 4 t.names.next ++ (number_text 4 t.next_log ++ (state_text t.members.state ++ (zeros 2
-    ++ (number_text 8 t.members.generation ++ number_text 8 t.next_entry))))
+abbrev pub head_text : ℕ → ℕ → Members → ℕ → List ℕ
+head_text file log members entry = number_text 4 file ++ (number_text 4 log ++ (state_text members.state ++ (zeros 2
+    ++ (number_text 8 members.generation ++ number_text 8 entry))))
 
 -- the lists: names by path, files by number, logs by number, held stripes by log and stripe
 abbrev pub lists_text : Tables → List ℕ
@@ -104,4 +118,4 @@ lists_text t = list_text name_text t.names.entries ++ (list_text file_text t.fil
 
 -- the bytes of tables
 unfoldable pub spelling_of_tables : Tables → List ℕ
-spelling_of_tables t = head_text t ++ lists_text t
+spelling_of_tables t = head_text t.names.next t.next_log t.members t.next_entry ++ lists_text t

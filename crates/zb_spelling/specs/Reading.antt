@@ -1,5 +1,5 @@
 -- What the reader finds part by part: numbers that have room in their bytes.
-use Rattle.std.specs.Prelude.{◌≡◌, ℕ, ◌+◌, ◌^◌, ◌<◌, List, map, length, Option, Some, None, IfSome, IsTrue}
+use Rattle.std.specs.Prelude.{◌≡◌, ℕ, ◌+◌, ◌^◌, ◌<◌, List, map, length, Option, Some, None, IfSome}
 use Rattle.std.specs.List.{AllByRecursion}
 use Rattle.zb_types.specs.declared.ids.Ptr.{Ptr}
 use Rattle.zb_types.specs.declared.calls.Refusal.{Refusal}
@@ -7,9 +7,9 @@ use Rattle.zb_types.specs.declared.calls.Reply.{Reply}
 use Rattle.zb_types.specs.declared.nodes.Members.{Members}
 use Rattle.zb_types.specs.declared.tables.HeldUse.{HeldUse}
 use Rattle.zb_types.specs.Names.{Entry, directory, numbered}
-use Rattle.zb_types.specs.Paths.{is_path}
 use Rattle.zb_numbers.specs.Numbers.{IsBelow}
 use Rattle.zb_delta.specs.Spelling.{IsPtr}
+use Rattle.zb_batch.specs.Reading.{IsPath}
 use Rattle.zb_names.specs.declared.entries.Entry.{Entry as Given}
 use Rattle.zb_names.specs.Shown.{seen, listed}
 use Rattle.zb_pointers.specs.Seen.{numbered_file}
@@ -42,10 +42,6 @@ IsEntry (numbered number) = IsBelow 4 number
 abbrev pub IsEntryOf : ℕ → ℕ → Option Entry → Type 0
 IsEntryOf kind number (Some entry) = (kind_of_entry entry ≡ kind) × (number_of_entry entry ≡ number)
 IsEntryOf kind number None = (entry : Entry) → kind_of_entry entry ≡ kind → number_of_entry entry ≡ number → ⊥
-
--- a valid path
-abbrev pub IsPath : List ℕ → Type 0
-IsPath path = IsTrue (is_path path)
 
 -- a valid path, and what stands there
 abbrev pub IsName : List ℕ × Entry → Type 0

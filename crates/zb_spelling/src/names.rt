@@ -3,10 +3,11 @@ ghost use Rattle.std.specs.Option.{option_map};
 ghost use Rattle.zb_types.specs.Names.{Entry as PlainEntry};
 ghost use Rattle.zb_numbers.specs.Fronts.{ReadsFront};
 ghost use Rattle.zb_numbers.specs.Numbers.{number_text};
+ghost use Rattle.zb_batch.specs.Reading.{IsPath};
 ghost use Rattle.zb_batch.specs.Spelling.{path_text};
 ghost use Rattle.zb_names.specs.Shown.{seen};
 ghost use Rattle.zb_spelling.specs.Spelling.{entry_text, kind_of_entry, name_text, number_of_entry};
-ghost use Rattle.zb_spelling.specs.Reading.{IsEntry, IsEntryOf, IsName, IsPath, shown_name};
+ghost use Rattle.zb_spelling.specs.Reading.{IsEntry, IsEntryOf, IsName, shown_name};
 
 use crate::listed::{Readable, Spelled, Written};
 use std::alloc::Global;

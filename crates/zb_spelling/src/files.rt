@@ -9,7 +9,7 @@ ghost use Rattle.zb_tables.specs.Tables.{FileState};
 ghost use Rattle.zb_spelling.specs.Spelling.{block_text, file_text, list_text};
 ghost use Rattle.zb_spelling.specs.Reading.{IsBlock, IsFileRow, shown_file};
 
-use crate::listed::{Readable, Spelled, Written, push_count, push_list, read_list};
+use crate::listed::{Readable, Written, push_count, push_list, read_list};
 use crate::rows::FileRow;
 use std::alloc::Global;
 use zb_numbers::{push_u32, push_u64, split_u32, split_u64};
@@ -52,15 +52,9 @@ fn push_ptr(alloc: Global, to: &mut ByteList, ptr: &Ptr) -> Mem<()>
     push_u32(alloc, to, ptr.len)
 }
 
-impl Spelled for (u32, Ptr) {
-    ghost Plain = { ℕ × PlainPtr };
-
-    ghost plain = { λ block. block };
-
-    ghost text = { block_text };
-}
-
 impl Written for (u32, Ptr) {
+    ghost text = { block_text };
+
     fn push(&self, alloc: Global, to: &mut ByteList) -> Mem<()> {
         push_u32(alloc, to, self.0)?;
         push_ptr(alloc, to, &self.1)
@@ -68,7 +62,13 @@ impl Written for (u32, Ptr) {
 }
 
 impl Readable for (u32, Ptr) {
+    ghost Plain = { ℕ × PlainPtr };
+
+    ghost plain = { λ block. block };
+
     ghost Is = { IsBlock };
+
+    ghost text = { block_text };
 
     fn read(_alloc: Global, bytes: &[u8]) -> Mem<Option<((u32, Ptr), &[u8])>> {
         if bytes.len() < BLOCK {
@@ -80,16 +80,14 @@ impl Readable for (u32, Ptr) {
     }
 }
 
-impl Spelled for FileRow {
+impl Readable for FileRow {
     ghost Plain = { ℕ × FileState };
 
     ghost plain = { shown_file };
 
-    ghost text = { file_text };
-}
-
-impl Readable for FileRow {
     ghost Is = { IsFileRow };
+
+    ghost text = { file_text };
 
     fn read(alloc: Global, bytes: &[u8]) -> Mem<Option<(FileRow, &[u8])>> {
         if bytes.len() < FILE {

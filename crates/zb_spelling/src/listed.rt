@@ -10,30 +10,29 @@ use std::alloc::Global;
 use zb_numbers::{push_u32, split_u32};
 use zb_types::{ByteList, Mem, NoMemory};
 
-/// An item of a list of the tables, and its bytes.
-pub(crate) trait Spelled: Drop {
+/// An item of a list of the tables that can be written.
+pub(crate) trait Written {
+    ghost text: { Self → List ℕ };
+
+    /// Writes its bytes at the end, or a part of them where memory runs out.
+    fn push(&self, alloc: Global, to: &mut ByteList) -> Mem<()>
+        ensures { OnOk result (to.new ≡ to.old ++ text self.now) };
+}
+
+/// An item of a list of the tables that can be read. Contracts see it as the tables have it.
+pub(crate) trait Readable: Drop {
     ghost Plain: { Type 0 };
 
     ghost plain: { Self → Plain };
 
+    ghost Is: { Plain → Type 0 };
+
     ghost text: { Plain → List ℕ };
-}
-
-/// An item that can be written.
-pub(crate) trait Written: Spelled {
-    /// Writes its bytes at the end, or a part of them where memory runs out.
-    fn push(&self, alloc: Global, to: &mut ByteList) -> Mem<()>
-        ensures { OnOk result (to.new ≡ to.old ++ Self.text (Self.plain self.now)) };
-}
-
-/// An item that can be read.
-pub(crate) trait Readable: Spelled {
-    ghost Is: { Self.Plain → Type 0 };
 
     /// The item at the front of these bytes. None where none stands there.
     fn read(alloc: Global, bytes: &[u8]) -> Mem<Option<(Self, &[u8])>>
         ensures { IfOk result (λ found.
-            ReadsFront Is Self.text bytes.now (option_map (λ f. (Self.plain f.0, f.1.now)) found)) };
+            ReadsFront Is text bytes.now (option_map (λ f. (plain f.0, f.1.now)) found)) };
 }
 
 /// Writes how many items a list has. A count of 2^32 or more has no room.
@@ -48,7 +47,7 @@ pub(crate) fn push_count(alloc: Global, to: &mut ByteList, count: usize) -> Mem<
 }
 
 fn push_all<T: Written>(alloc: Global, to: &mut ByteList, items: &[T]) -> Mem<()>
-    ensures { OnOk result (to.new ≡ to.old ++ flat_map T.text (map T.plain items.now)) }
+    ensures { OnOk result (to.new ≡ to.old ++ flat_map T.text items.now) }
 {
     for item in items {
         item.push(alloc, to)?;
@@ -58,7 +57,7 @@ fn push_all<T: Written>(alloc: Global, to: &mut ByteList, items: &[T]) -> Mem<()
 
 /// Writes items behind their count, or a part of that where memory runs out, or where a count has no room.
 pub(crate) fn push_list<T: Written>(alloc: Global, to: &mut ByteList, items: &[T]) -> Mem<()>
-    ensures text { OnOk result (to.new ≡ to.old ++ list_text T.text (map T.plain items.now)) }
+    ensures text { OnOk result (to.new ≡ to.old ++ list_text T.text items.now) }
     ensures count { OnOk result (length items.now < 2 ^ 32) }
 {
     push_count(alloc, to, items.len())?;

@@ -10,7 +10,7 @@ ghost use Rattle.zb_tables.specs.Fold.{following as stripe_behind};
 ghost use Rattle.zb_spelling.specs.Spelling.{held_text, list_text, log_text, owner_text};
 ghost use Rattle.zb_spelling.specs.Reading.{IsAny, IsHeldRow, IsLogRow};
 
-use crate::listed::{Readable, Spelled, Written, push_count, push_list, read_list};
+use crate::listed::{Readable, Written, push_count, push_list, read_list};
 use std::alloc::Global;
 use zb_log_tables::{Log, LogTable, ReplyList};
 use zb_numbers::{append, are_zeros, push_u32, push_u64, split_u32, split_u64};
@@ -72,16 +72,14 @@ fn read_marks(bytes: &[u8]) -> (Marks, &[u8])
     (marks, rest)
 }
 
-impl Spelled for Log {
+impl Readable for Log {
     ghost Plain = { ℕ × LogState };
 
     ghost plain = { λ log. (log.number, state_of log) };
 
-    ghost text = { log_text };
-}
-
-impl Readable for Log {
     ghost Is = { IsLogRow };
+
+    ghost text = { log_text };
 
     fn read(alloc: Global, bytes: &[u8]) -> Mem<Option<(Log, &[u8])>> {
         if bytes.len() < LOG {
@@ -155,15 +153,9 @@ pub(crate) fn push_logs(alloc: Global, to: &mut ByteList, logs: &LogTable) -> Me
     push_all(alloc, to, logs)
 }
 
-impl Spelled for HeldUse {
-    ghost Plain = { PlainHeld };
-
-    ghost plain = { λ held. held };
-
-    ghost text = { held_text };
-}
-
 impl Written for HeldUse {
+    ghost text = { held_text };
+
     fn push(&self, alloc: Global, to: &mut ByteList) -> Mem<()> {
         push_u32(alloc, to, self.log.0)?;
         push_u64(alloc, to, self.stripe)?;
@@ -173,7 +165,13 @@ impl Written for HeldUse {
 }
 
 impl Readable for HeldUse {
+    ghost Plain = { PlainHeld };
+
+    ghost plain = { λ held. held };
+
     ghost Is = { IsHeldRow };
+
+    ghost text = { held_text };
 
     fn read(_alloc: Global, bytes: &[u8]) -> Mem<Option<(HeldUse, &[u8])>> {
         if bytes.len() < HELD {

@@ -6,12 +6,12 @@ ghost use Rattle.zb_numbers.specs.Numbers.{number_text};
 ghost use Rattle.zb_batch.specs.Reading.{IsPath};
 ghost use Rattle.zb_batch.specs.Spelling.{path_text};
 ghost use Rattle.zb_names.specs.Shown.{seen};
-ghost use Rattle.zb_spelling.specs.Spelling.{entry_text, kind_of_entry, name_text, number_of_entry};
+ghost use Rattle.zb_spelling.specs.Spelling.{entry_text, kind_of_entry, list_text, name_text, number_of_entry};
 ghost use Rattle.zb_spelling.specs.Reading.{IsEntry, IsEntryOf, IsName, shown_name};
 
-use crate::listed::{Readable, Spelled, Written};
+use crate::listed::{Readable, Written, push_list};
 use std::alloc::Global;
-use zb_names::Entry;
+use zb_names::{Entry, Names};
 use zb_numbers::{append, push_u16, push_u32, split_u16, split_u32};
 use zb_types::{ByteList, Fid, Mem, NoMemory, Path};
 
@@ -41,10 +41,10 @@ fn read_path(alloc: Global, bytes: &[u8]) -> Mem<Option<(Path, &[u8])>>
         return Ok(None);
     }
     let (path, rest) = rest.split_at(len);
-    match Path::parse(alloc, path)? {
-        Some(path) => Ok(Some((path, rest))),
-        None => Ok(None),
-    }
+    let Some(path) = Path::parse(alloc, path)? else {
+        return Ok(None);
+    };
+    Ok(Some((path, rest)))
 }
 
 // What stands at a path, by its kind and number.
@@ -88,15 +88,9 @@ fn push_path(alloc: Global, to: &mut ByteList, path: &Path) -> Mem<()>
     append(alloc, to, path)
 }
 
-impl Spelled for (Path, Entry) {
-    ghost Plain = { List ℕ × PlainEntry };
-
-    ghost plain = { shown_name };
-
-    ghost text = { name_text };
-}
-
 impl Written for (Path, Entry) {
+    ghost text = { λ e. name_text (shown_name e) };
+
     fn push(&self, alloc: Global, to: &mut ByteList) -> Mem<()> {
         let (kind, number) = parts_of(self.1);
         push_path(alloc, to, &self.0)?;
@@ -106,7 +100,13 @@ impl Written for (Path, Entry) {
 }
 
 impl Readable for (Path, Entry) {
+    ghost Plain = { List ℕ × PlainEntry };
+
+    ghost plain = { shown_name };
+
     ghost Is = { IsName };
+
+    ghost text = { name_text };
 
     fn read(alloc: Global, bytes: &[u8]) -> Mem<Option<((Path, Entry), &[u8])>> {
         let Some((path, rest)) = read_path(alloc, bytes)? else {
@@ -117,4 +117,11 @@ impl Readable for (Path, Entry) {
         };
         Ok(Some(((path, entry), rest)))
     }
+}
+
+/// Writes the names behind their count, or a part of that where memory runs out, or where the count has no room.
+pub(crate) fn push_names(alloc: Global, to: &mut ByteList, names: &Names) -> Mem<()>
+    ensures { OnOk result (to.new ≡ to.old ++ list_text name_text names.now.entries) }
+{
+    push_list(alloc, to, names.entries())
 }

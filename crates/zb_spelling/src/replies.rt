@@ -5,7 +5,7 @@ ghost use Rattle.zb_tables.specs.Checkpoint.{IsUpdateReply};
 ghost use Rattle.zb_spelling.specs.Spelling.{kind_of_refusal, kind_of_reply, number_of_reply, reply_text};
 ghost use Rattle.zb_spelling.specs.Reading.{IsRefusalOf, IsReplyOf};
 
-use crate::listed::{Readable, Spelled, Written};
+use crate::listed::{Readable, Written};
 use crate::names::{TAGGED, split_tagged};
 use std::alloc::Global;
 use zb_numbers::push_u32;
@@ -78,15 +78,9 @@ fn parts_of(reply: &Reply) -> (u8, u32)
     }
 }
 
-impl Spelled for Reply {
-    ghost Plain = { PlainReply };
-
-    ghost plain = { λ reply. reply };
-
-    ghost text = { reply_text };
-}
-
 impl Written for Reply {
+    ghost text = { reply_text };
+
     fn push(&self, alloc: Global, to: &mut ByteList) -> Mem<()> {
         let (kind, number) = parts_of(self);
         to.push(kind)?;
@@ -95,7 +89,13 @@ impl Written for Reply {
 }
 
 impl Readable for Reply {
+    ghost Plain = { PlainReply };
+
+    ghost plain = { λ reply. reply };
+
     ghost Is = { IsUpdateReply };
+
+    ghost text = { reply_text };
 
     fn read(_alloc: Global, bytes: &[u8]) -> Mem<Option<(Reply, &[u8])>> {
         if bytes.len() < TAGGED {

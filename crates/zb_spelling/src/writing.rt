@@ -7,6 +7,7 @@ use crate::files::push_files;
 use crate::head::push_head;
 use crate::listed::push_list;
 use crate::logs::push_logs;
+use crate::names::push_names;
 use crate::parts::Numbers;
 use std::alloc::Global;
 use zb_log_tables::{HeldTable, LogTable};
@@ -29,7 +30,7 @@ pub fn write(
 {
     let mut text = ByteList::new(alloc)?;
     push_head(alloc, &mut text, names.next(), numbers)?;
-    push_list(alloc, &mut text, names.entries())?;
+    push_names(alloc, &mut text, names)?;
     push_files(alloc, &mut text, pointers)?;
     push_logs(alloc, &mut text, logs)?;
     push_list(alloc, &mut text, held.slice())?;

@@ -109,7 +109,7 @@ never_again owner (e ∷ es) rising one = elim (cases_Bool (is_live_of owner e.1
         (one e.0 found.key e.1 found.log (ap (λ (b : Bool). if b then Some e.1 else look e.0 es) (eq-eqb e.0 e.0 refl))
         (look_later found.key e es (above_other e.0 found.key found.log es rising.0 found.at) ∙ found.at) first.0 other.0
         (eqb-true (e.1).owner owner first.1 ∙ sym (eqb-true (found.log).owner owner other.1))))
-    | inr no ↦ no
+    | inr none ↦ none
   ]
   | inr f ↦ again_later owner false e es f ∙ never_again owner es rising.1 (one_behind e es rising.0 one)
 ]

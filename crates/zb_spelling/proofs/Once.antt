@@ -95,7 +95,7 @@ file_once a b r s h g e =
 -- Replies.
 
 -- the refusal of a kind; any for another number
-refusal_of : ℕ → Refusal
+abbrev refusal_of : ℕ → Refusal
 refusal_of kind = if kind == 2 then NoEntry else (if kind == 3 then NotDir else (if kind == 4 then IsDir else (if kind == 5 then Exists
     else (if kind == 6 then Inside else (if kind == 7 then NotEmpty else (if kind == 8 then Gone else (if kind == 9 then TooBig else Full)))))))
 

@@ -1,6 +1,6 @@
 -- Numbers in order that are those of others in order.
-use Rattle.std.proofs.Common.{◌≡◌, ℕ, ◌+◌, ◌≤◌, ◌<◌, Bool, true, false, eqb, List, [], ◌∷◌, length, get_or, refl, sym, ap, ◌∙◌, subst, inl, inr, arith}
-use Rattle.std.specs.Prelude.{◌==◌, if◌then◌else◌}
+use Rattle.std.proofs.Common.{◌≡◌, ℕ, suc, ◌+◌, ◌≤◌, ◌<◌, Bool, true, false, eqb, List, [], ◌∷◌, length, get_or, refl, sym, ap, ◌∙◌, subst, inl, inr, arith}
+use Rattle.std.specs.Prelude.{◌==◌, ◌↔◌, IsTrue, if◌then◌else◌}
 use Rattle.std.specs.List.{AllByRecursion}
 use Rattle.std.specs.List.Sorted.{IsPermutation, IsSorted, IsStrictlySortedBy}
 use Rattle.std.specs.Ordering.{nat_cmp, is_lt}
@@ -69,7 +69,9 @@ abbrev Steps : List ℕ → Type 0
 Steps xs = (k : ℕ) (d : ℕ) → 0 ≤ k → k + 1 < length xs → is_lt (nat_cmp (get_or xs (k + 1) d) (get_or xs k d)) ≡ false
 
 steps_behind : (x : ℕ) (xs : List ℕ) → Steps (x ∷ xs) → Steps xs
-steps_behind x xs steps k d from lt = steps (suc k) d (omega arith) (omega arith)
+steps_behind x xs steps k d from lt =
+    let next : suc k + 1 ≡ suc (k + 1) = omega arith in
+    subst (λ (n : ℕ). is_lt (nat_cmp (get_or (x ∷ xs) n d) (get_or xs k d)) ≡ false) next (steps (suc k) d (omega arith) (omega (arith, lt)))
 
 all_from_step : (x y : ℕ) (ys : List ℕ) → x ≤ y → AllFrom y ys → AllFrom x ys
 all_from_step x y [] le all = tt
@@ -91,3 +93,10 @@ sorted_are numbers sorted keys moved order rising same =
 
 pub same_from_sorted : (numbers sorted keys : List ℕ) → IsPermutation numbers sorted → sorted ≡ keys → IsPermutation numbers keys
 same_from_sorted numbers sorted keys moved same = subst (IsPermutation numbers) same moved
+
+-- a test whether sorted numbers are those keys
+pub named_by : (numbers named after sorted keys kept : List ℕ) → named ≡ numbers → IsPermutation named after → sorted ≡ after → IsSorted nat_cmp after → kept ≡ keys → IsStrictlySortedBy nat_cmp keys
+    → (b : Bool) → (IsTrue b ↔ (sorted ≡ kept)) → (IsTrue b ↔ IsPermutation numbers keys)
+named_by numbers named after sorted keys kept is moved same order are rising b test =
+    let from : IsPermutation numbers after = subst (λ (ns : List ℕ). IsPermutation ns after) is moved in
+    (λ told. same_from_sorted numbers after keys from (sym same ∙ test.0 told ∙ are), λ all. test.1 (same ∙ sorted_are numbers after keys from order rising all ∙ sym are))

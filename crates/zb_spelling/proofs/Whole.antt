@@ -1,8 +1,11 @@
 -- The whole of the tables: where bytes begin with none, and what a reader makes of what it finds.
-use Rattle.std.proofs.Common.{◌≡◌, ℕ, ◌+◌, ◌*◌, ◌-◌, ◌^◌, ◌<◌, ◌≤◌, Bool, true, false, List, [], ◌∷◌, ◌++◌, length, Option, Some, None, refl, sym, ap, ◌∙◌, subst, arith}
+use Rattle.std.proofs.Common.{◌≡◌, ℕ, zero, suc, ◌+◌, ◌*◌, ◌-◌, ◌^◌, ◌<◌, ◌≤◌, Bool, true, false, List, [], ◌∷◌, ◌++◌, length, Option, Some, None, refl, sym, ap, ◌∙◌, subst, arith}
+use Rattle.std.specs.Prelude.{◌==◌, Result, Ok, Err, IfOk, option_map}
+use Rattle.std.proofs.lemmas.Bool.{eqb-true, false≢true}
 use Rattle.std.proofs.lemmas.List.{append-nil}
 use Rattle.std.proofs.lemmas.Nat.{mul-le}
 use Rattle.zb_types.specs.declared.geometry.Geometry.{Geometry}
+use Rattle.zb_types.specs.declared.memory.NoMemory.{NoMemory}
 use Rattle.zb_types.specs.declared.tables.HeldUse.{HeldUse}
 use Rattle.zb_types.specs.Names.{Entry}
 use Rattle.zb_numbers.specs.Fronts.{ReadsFront}
@@ -10,6 +13,8 @@ use Rattle.zb_tables.specs.Tables.{FileState, LogState, Tables}
 use Rattle.zb_tables.specs.Taking.{Sizes}
 use Rattle.zb_tables.specs.Checkpoint.{AreTables}
 use Rattle.zb_spelling.specs.declared.head.Head.{Head}
+use Rattle.zb_spelling.specs.declared.parts.Parts.{Parts}
+use Rattle.zb_spelling.specs.Parts.{tables_of}
 use Rattle.zb_spelling.specs.Spelling.{list_text, name_text, file_text, log_text, held_text, spelling_of_tables}
 use Rattle.zb_spelling.specs.Unspelling.{HasFewBytes, IsCheckpoint, Unspells, sizes_of}
 use Rattle.zb_spelling.specs.Limits.{Agree, AreWithin, Unites}
@@ -100,7 +105,7 @@ module _ (z : Sizes) (few : HasFewBytes z) (bytes : List ℕ) where
     something_left more t c e = let none = ap length (same_found t c e).1 in omega (arith, more, none)
 
     pub not_within : (AreWithin z found → ⊥) → Unspells z bytes None
-    not_within no t c e = no (within_from z found (subst (λ (u : Tables). AreTables z u) (same_found t c e).0 c.tables))
+    not_within outside t c e = outside (within_from z found (subst (λ (u : Tables). AreTables z u) (same_found t c e).0 c.tables))
 
     pub united : rest ≡ [] → AreWithin z found → (o : Option Tables) → Unites found o → Unspells z bytes o
     united empty within (Some t) u = (
@@ -117,3 +122,18 @@ read_again z few bytes None none t c e = absurd (none t c e)
 
 pub one_spelling : (z other : Sizes) (t u : Tables) → HasFewBytes z → HasFewBytes other → IsCheckpoint z t → IsCheckpoint other u → spelling_of_tables t ≡ spelling_of_tables u → t ≡ u
 one_spelling z other t u few fewer c d e = (tables_once t u [] [] (checkpoint_room z t few c) (checkpoint_room other u fewer d) (ap (λ (x : List ℕ). x ++ []) e)).0
+
+-- What the reader's tests say.
+
+pub more_than_none : (n : ℕ) (b : Bool) → b ≡ (n == 0) → b ≡ false → 0 < n
+more_than_none zero b e f = absurd (false≢true (sym f ∙ e))
+more_than_none (suc n) b e f = omega arith
+
+pub none_is_left : (xs : List ℕ) (b : Bool) → b ≡ (length xs == 0) → b ≡ true → xs ≡ []
+none_is_left [] b e t = refl
+none_is_left (x ∷ xs) b e t = absurd (let none = eqb-true (length (x ∷ xs)) 0 (sym e ∙ t) in omega (arith, none))
+
+pub read_united : (z : Sizes) → HasFewBytes z → (bytes : List ℕ) (found : Tables) (rest : List ℕ) → HasRoom found × (spelling_of_tables found ++ rest ≡ bytes) → rest ≡ [] → AreWithin z found
+    → (r : Result (Option Parts) NoMemory) → IfOk r (λ o. Unites found (option_map tables_of o)) → IfOk r (λ o. Unspells z bytes (option_map tables_of o))
+read_united z few bytes found rest is empty within (Ok o) u = united z few bytes found rest is empty within (option_map tables_of o) u
+read_united z few bytes found rest is empty within (Err e) u = tt

@@ -45,6 +45,12 @@ fn keys_of(alloc: Global, files: &[FileRow]) -> Mem<Vec<u32>>
     Ok(numbers)
 }
 
+fn are_same(numbers: &[u32], others: &[u32]) -> bool
+    ensures { IsTrue result ↔ (numbers.now ≡ others.now) }
+{
+    numbers == others
+}
+
 // Whether these files, whose numbers rise, are those of the names, each named once. It takes memory for their numbers,
 // and sorts those of the names.
 fn are_named(alloc: Global, names: &[(Path, Entry)], files: &[FileRow]) -> Mem<bool>
@@ -54,7 +60,7 @@ fn are_named(alloc: Global, names: &[(Path, Entry)], files: &[FileRow]) -> Mem<b
     let mut named = numbers_of(alloc, names)?;
     named.sort_unstable();
     let numbers = keys_of(alloc, files)?;
-    Ok(named.as_slice() == numbers.as_slice())
+    Ok(are_same(named.as_slice(), numbers.as_slice()))
 }
 
 // Whether each log lives or holds a stripe.
@@ -104,22 +110,26 @@ pub(crate) fn build(alloc: Global, geo: &Geometry, rows: Rows) -> Mem<Option<Par
     ensures block { IfOk result (λ found. IfSome found (λ parts. parts.pointers.block ≡ geo.now.block)) }
 {
     let named = are_named(alloc, &rows.names, &rows.files)?;
-    let kept = HeldTable::of(rows.held);
-    if !named || !all_kept(&rows.logs, &kept) {
+    if !named {
+        return Ok(None);
+    }
+    let held = HeldTable::of(rows.held);
+    if !all_kept(&rows.logs, &held) {
         return Ok(None);
     }
     let logs = LogTable::of(rows.logs);
-    if !all_there(&kept, &logs) {
+    if !all_there(&held, &logs) {
         return Ok(None);
     }
     let Some(names) = Names::load(alloc, rows.head.next_file, &rows.names)? else {
         return Ok(None);
     };
+    let pointers = pointers_of(alloc, geo, &rows.files)?;
     Ok(Some(Parts {
         names,
-        pointers: pointers_of(alloc, geo, &rows.files)?,
+        pointers,
         logs,
-        held: kept,
+        held,
         numbers: rows.head.numbers,
     }))
 }

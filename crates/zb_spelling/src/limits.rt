@@ -1,4 +1,4 @@
-ghost use Rattle.std.specs.Prelude.{◌≡◌, ◌≤◌, ◌↔◌, IsTrue, map};
+ghost use Rattle.std.specs.Prelude.{◌≡◌, ◌≤◌, ◌↔◌, false, IsTrue, map};
 ghost use Rattle.std.specs.List.{AllByRecursion};
 ghost use Rattle.zb_log_tables.specs.Logs.{state_of, states_of};
 ghost use Rattle.zb_tables.specs.Taking.{IsPointer, IsState, stripe_room};
@@ -58,10 +58,23 @@ fn file_fits(geo: &Geometry, next: u32, row: &FileRow) -> bool
     rise(&row.blocks) && are_pointers(geo, &row.blocks)
 }
 
+fn each_file_fits(geo: &Geometry, next: u32, files: &[FileRow]) -> bool
+    ensures { IsTrue result ↔ AllByRecursion (λ row. FileFits (sizes_of geo.now) next (shown_file row)) files.now }
+{
+    let mut rest = files;
+    while let Some((row, others)) = rest.split_first() {
+        if !file_fits(geo, next, row) {
+            return false;
+        }
+        rest = others;
+    }
+    true
+}
+
 fn files_fit(geo: &Geometry, next: u32, files: &[FileRow]) -> bool
     ensures { IsTrue result ↔ FilesFit (sizes_of geo.now) next (map shown_file files.now) }
 {
-    rise(files) && files.iter().all(|row| file_fits(geo, next, row))
+    rise(files) && each_file_fits(geo, next, files)
 }
 
 fn log_fits(geo: &Geometry, next: u32, log: &Log) -> bool
@@ -103,13 +116,22 @@ fn each_lives_once(geo: &Geometry, logs: &[Log]) -> bool
     true
 }
 
+fn each_log_fits(geo: &Geometry, next: u32, logs: &[Log]) -> bool
+    ensures { IsTrue result ↔ AllByRecursion (λ log. LogFits (sizes_of geo.now) next (log.number, state_of log)) logs.now }
+{
+    logs.iter().all(|log| log_fits(geo, next, log))
+}
+
 fn logs_fit(geo: &Geometry, next: u32, logs: &[Log]) -> bool
     ensures { IsTrue result ↔ LogsFit (sizes_of geo.now) next (states_of logs.now) }
 {
-    if !rise(logs) || !each_lives_once(geo, logs) {
+    if !rise(logs) {
         return false;
     }
-    logs.iter().all(|log| log_fits(geo, next, log))
+    if !each_lives_once(geo, logs) {
+        return false;
+    }
+    each_log_fits(geo, next, logs)
 }
 
 fn held_fits(geo: &Geometry, held: &HeldUse) -> bool
@@ -118,10 +140,16 @@ fn held_fits(geo: &Geometry, held: &HeldUse) -> bool
     1 <= held.end && u64::from(held.end) <= stripe_room(geo) && is_count(held.born)
 }
 
+fn each_stripe_fits(geo: &Geometry, held: &[HeldUse]) -> bool
+    ensures { IsTrue result ↔ AllByRecursion (HeldFits (sizes_of geo.now)) held.now }
+{
+    held.iter().all(|stripe| held_fits(geo, stripe))
+}
+
 fn stripes_fit(geo: &Geometry, held: &[HeldUse]) -> bool
     ensures { IsTrue result ↔ StripesFit (sizes_of geo.now) held.now }
 {
-    rise(held) && held.iter().all(|stripe| held_fits(geo, stripe))
+    rise(held) && each_stripe_fits(geo, held)
 }
 
 fn is_state(geo: &Geometry, state: State) -> bool

@@ -23,6 +23,7 @@ const LOG: usize = 32;
 const HELD: usize = 24;
 
 /// The numbers of a log's last batch, its last stripe and its mark.
+#[derive(Drop)]
 struct Marks {
     batch: u64,
     last: Option<u64>,

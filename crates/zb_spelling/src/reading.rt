@@ -56,7 +56,10 @@ pub fn read(alloc: Global, geo: &Geometry, bytes: &[u8]) -> Mem<Option<Parts>>
     let Some((rows, rest)) = read_rows(alloc, bytes)? else {
         return Ok(None);
     };
-    if !rest.is_empty() || !are_within(geo, &rows) {
+    if !rest.is_empty() {
+        return Ok(None);
+    }
+    if !are_within(geo, &rows) {
         return Ok(None);
     }
     build(alloc, geo, rows)

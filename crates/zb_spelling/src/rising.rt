@@ -4,7 +4,7 @@ ghost use Rattle.std.specs.Ordering.{nat_cmp, is_lt};
 ghost use Rattle.std.specs.declared.cmp.Ordering.{Ordering};
 ghost use Rattle.zb_types.specs.declared.tables.HeldUse.{HeldUse as PlainHeld};
 ghost use Rattle.zb_tables.specs.Checkpoint.{held_cmp};
-ghost use Rattle.zb_spelling.specs.Limits.{IsTransitive};
+ghost use Rattle.zb_spelling.specs.Limits.{IsTransitive, rise};
 
 use crate::rows::FileRow;
 use zb_log_tables::Log;
@@ -71,10 +71,9 @@ impl Rising for HeldUse {
     }
 }
 
-/// Whether each item stands before the next.
-pub(crate) fn rise<T: Rising>(items: &[T]) -> bool
-    requires { IsTransitive T.order }
-    ensures { IsTrue result ↔ IsStrictlySortedBy T.order (map T.key items.now) }
+// Whether each item stands before the next.
+fn step_up<T: Rising>(items: &[T]) -> bool
+    ensures { result ≡ rise T.order (map T.key items.now) }
 {
     let mut rest = items;
     while let [item, others @ ..] = rest {
@@ -86,4 +85,12 @@ pub(crate) fn rise<T: Rising>(items: &[T]) -> bool
         rest = others;
     }
     true
+}
+
+/// Whether the items are in order, each once.
+pub(crate) fn rise<T: Rising>(items: &[T]) -> bool
+    requires { IsTransitive T.order }
+    ensures { IsTrue result ↔ IsStrictlySortedBy T.order (map T.key items.now) }
+{
+    step_up(items)
 }

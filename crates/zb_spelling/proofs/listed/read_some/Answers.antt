@@ -1,4 +1,5 @@
-use Rattle.std.proofs.Common.{arith, map, length-map}
+use Rattle.std.proofs.Common.{arith, map}
+use Rattle.std.proofs.lemmas.List.{length-map}
 use Rattle.zb_spelling.proofs.Missing.{no_more_items}
 use Rattle.zb_spelling.proofs.listed.read_some.Goals as goal
 

@@ -11,13 +11,7 @@ use Rattle.std.proofs.lemmas.Bool.{and_parts, and_from, cases_order}
 use Rattle.std.proofs.lemmas.Bool.Decides.{nat_tests}
 use Rattle.zb_types.specs.declared.tables.HeldUse.{HeldUse}
 use Rattle.zb_tables.specs.Checkpoint.{held_cmp}
-use Rattle.zb_spelling.specs.Limits.{IsTransitive}
-
--- each key is less than the next
-abbrev pub rise : {K : Type 0} → (K → K → Ordering) → List K → Bool
-rise order [] = true
-rise order (key ∷ []) = true
-rise order (key ∷ (next ∷ more)) = is_lt (order key next) && rise order (next ∷ more)
+use Rattle.zb_spelling.specs.Limits.{IsTransitive, rise}
 
 is_less : (o : Ordering) → is_lt o ≡ true → o ≡ Less
 is_less Less h = refl

@@ -19,7 +19,7 @@ fn is_before(a: &HeldUse, log: LogId, stripe: u64) -> bool
 /// Held stripes by log and stripe, with room for more.
 #[derive(Drop)]
 pub struct HeldTable {
-    stripes: Vec<HeldUse>,
+    pub(crate) stripes: Vec<HeldUse>,
 }
 
 impl Model for HeldTable {

@@ -3,6 +3,7 @@
 #![tactic(auto)]
 
 mod held;
+mod loading;
 mod log;
 mod logs;
 

@@ -114,7 +114,7 @@ fn uses_of(alloc: Global, logs: &[Log]) -> Mem<LogUseList>
 /// Logs by number, with room for more.
 #[derive(Drop)]
 pub struct LogTable {
-    logs: Vec<Log>,
+    pub(crate) logs: Vec<Log>,
 }
 
 impl Model for LogTable {

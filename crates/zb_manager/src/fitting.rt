@@ -3,31 +3,18 @@ ghost use Rattle.std.specs.List.{AllByRecursion};
 ghost use Rattle.zb_delta.specs.Spelling.{body_of as new_body};
 ghost use Rattle.zb_batch.specs.Spelling.{deltas_of};
 ghost use Rattle.zb_tables.specs.Pointing.{AllNow};
-ghost use Rattle.zb_tables.specs.Taking.{IsPiece, IsPointer, stripe_room};
+ghost use Rattle.zb_tables.specs.Taking.{IsPiece, IsPointer};
 ghost use Rattle.zb_manager.specs.Managers.{sizes_of};
 
 use crate::values::LAST_VALUE;
 use crate::working::body_of;
 use zb_batch::Op;
 use zb_delta::Delta;
-use zb_types::{Geometry, Piece, Ptr};
+use zb_spelling::{is_pointer, stripe_room};
+use zb_types::{Geometry, Piece};
 
 /// How many pieces a commit has at most.
 const MOST_PIECES: usize = 4_093;
-
-fn room_of(geo: &Geometry) -> u64
-    ensures { result ≡ stripe_room (sizes_of geo.now) }
-{
-    u64::from(geo.servers - 1) * u64::from(geo.fragment)
-}
-
-fn is_pointer(geo: &Geometry, ptr: &Ptr) -> bool
-    ensures { IsTrue result ↔ IsPointer (sizes_of geo.now) ptr.now }
-{
-    1 <= ptr.len
-        && ptr.len <= geo.block
-        && u64::from(ptr.offset) + u64::from(ptr.len) <= room_of(geo)
-}
 
 fn points_within(geo: &Geometry, delta: &Delta) -> bool
     ensures { IsTrue result ↔ IsPointer (sizes_of geo.now) (new_body delta.now).now }
@@ -52,7 +39,7 @@ fn is_piece(geo: &Geometry, piece: &Piece) -> bool
     ensures { IsTrue result ↔ IsPiece (sizes_of geo.now) piece.now }
 {
     let end = u64::from(piece.offset) + u64::from(piece.len);
-    piece.stripe <= LAST_VALUE && 1 <= end && end <= room_of(geo)
+    piece.stripe <= LAST_VALUE && 1 <= end && end <= stripe_room(geo)
 }
 
 /// Whether the pieces lie within stripes.

@@ -1,4 +1,4 @@
-ghost use Rattle.std.specs.Prelude.{◌≡◌, ◌≢◌, ◌≤◌, ◌<◌, ◌^◌, ◌+◌, ◌↔◌, true, IsTrue, IsSomeAnd, [], IfOk, IfErr, IsErrOf, OnOk, OnErr, option_map, Some, None};
+ghost use Rattle.std.specs.Prelude.{◌≡◌, ◌≢◌, ◌≤◌, ◌<◌, ◌^◌, ◌+◌, ◌↔◌, true, IsTrue, IsSomeAnd, [], IfOk, IfSome, IfErr, IsErrOf, OnOk, OnErr, option_map, Some, None};
 ghost use Rattle.zb_types.specs.Names.{last_number};
 ghost use Rattle.zb_types.specs.declared.tables.CommitFault.TheVariants.{NoMemory as OutOfMemory};
 ghost use Rattle.zb_types.specs.Keyed.{look};
@@ -8,10 +8,14 @@ ghost use Rattle.zb_tables.specs.Fold.{after_retire, attached, shelf_of, with_me
 ghost use Rattle.zb_tables.specs.Taking.{IsAnswer, MayCommit, below_mark as first_below, commit_refusal, regen_of, stripe_room};
 ghost use Rattle.zb_tables.specs.Finding.{found, live, status, use_of};
 ghost use Rattle.std.specs.List.{AllByRecursion};
+ghost use Rattle.zb_tables.specs.Tables.{Tables};
+ghost use Rattle.zb_tables.specs.Checkpoint.{CountsFit};
+ghost use Rattle.zb_spelling.specs.Spelling.{spelling_of_tables};
+ghost use Rattle.zb_spelling.specs.Unspelling.{IsCheckpoint, Unspells};
 ghost use Rattle.zb_manager.specs.Drafts.{IsFileOp};
 ghost use Rattle.zb_manager.specs.Works.{MayWork, RoomForWork};
 ghost use Rattle.zb_manager.specs.Plans.{IsMovePlan, IsWork, Plans, worn_field};
-ghost use Rattle.zb_manager.specs.Managers.{IsFreeFor, SameBesides, SameTables, sizes_of};
+ghost use Rattle.zb_manager.specs.Managers.{IsFreeFor, SameBesides, SameTables, sizes_of, tables_in};
 ghost use Rattle.zb_manager.specs.Seen.{IsPrepared, IsReady, held_by, last_in, pointers_of, prepared_tables, with_work};
 
 use crate::cleaning::plan_moves;
@@ -32,8 +36,9 @@ use zb_delta::{Body, Delta, DeltaList};
 use zb_log_tables::{HeldTable, LogTable};
 use zb_names::Names;
 use zb_pointers::{FileHead, Pointers};
+use zb_spelling::{Numbers, read, write};
 use zb_types::{
-    CommitFault, Fid, Found, Geometry, HeldList, HeldUse, LogId, LogUse, LogUseList, Mem, Members,
+    ByteList, CommitFault, Fid, Found, Geometry, HeldList, HeldUse, LogId, LogUse, LogUseList, Mem, Members,
     NoMemory, Piece, PieceList, Ptr, Reply, State, Status,
 };
 
@@ -465,5 +470,57 @@ impl Manager {
             logs: self.logs.uses(alloc)?,
             held: HeldList::from_slice(alloc, self.held.slice())?,
         })
+    }
+
+    /// The bytes of the tables in a checkpoint, in as many steps as there are bytes, but for logarithms. `NoMemory` also
+    /// where a list of the tables, or the blocks of a file or the replies of a log, has 2^32 items or more: its count has
+    /// four bytes, and its text would have more than 2^34.
+    pub fn spell(&self, alloc: Global) -> Mem<ByteList>
+        ensures text { IfOk result (λ text. text ≡ spelling_of_tables self.now.tables) }
+
+        // Tables that a checkpoint may have are read back from them.
+        ensures counts { OnOk result (CountsFit self.now.tables) }
+    {
+        let numbers = Numbers {
+            members: self.members,
+            next_log: self.next_log,
+            next_entry: self.next_entry,
+        };
+        write(
+            alloc,
+            &self.names,
+            &self.pointers,
+            &self.logs,
+            &self.held,
+            &numbers,
+        )
+    }
+
+    /// The file manager with the tables of a checkpoint with these bytes; nobody holds. None exactly where the bytes are
+    /// not those of a checkpoint in a system of these sizes.
+    pub fn unspell(alloc: Global, geo: &Geometry, bytes: &[u8]) -> Mem<Option<Manager>>
+        ensures found { IfOk result (λ found. Unspells (sizes_of geo.now) bytes.now (option_map tables_in found)) }
+        ensures sizes { IfOk result (λ found. IfSome found (λ manager. manager.sizes ≡ sizes_of geo.now)) }
+        ensures holder { IfOk result (λ found. IfSome found (λ manager. manager.holder ≡ None)) }
+
+        // What is spelled is read.
+        ensures again { (t : Tables) → IsCheckpoint (sizes_of geo.now) t → spelling_of_tables t ≡ bytes.now
+            → IfOk result (λ found. option_map tables_in found ≡ Some t) }
+    {
+        let Some(parts) = read(alloc, geo, bytes)? else {
+            return Ok(None);
+        };
+        Ok(Some(Manager {
+            alloc,
+            sizes: *geo,
+            names: parts.names,
+            pointers: parts.pointers,
+            logs: parts.logs,
+            held: parts.held,
+            members: parts.numbers.members,
+            next_log: parts.numbers.next_log,
+            next_entry: parts.numbers.next_entry,
+            holder: None,
+        }))
     }
 }

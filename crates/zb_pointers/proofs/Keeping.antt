@@ -137,6 +137,15 @@ files_more es rising k kept none bare = same_keyed (files_in (put k kept es)) (f
       | inr other ↦ ap file_at (look-put_other q k kept es other) ∙ sym (look-files q es rising)
     ])
 
+-- a file under a number, whatever was kept there
+pub files_kept : (es : KeptFiles) (rising : IsRising es) (k : ℕ) (kept : Kept) (file : FileState) → file_in kept ≡ Some file → files_in (put k kept es) ≡ put k file (files_in es)
+files_kept es rising k kept file is = same_keyed (files_in (put k kept es)) (put k file (files_in es)) (rising_files (put k kept es) (IsRising-put k kept es rising)) (IsRising-put k file (files_in es) (rising_files es rising)) (λ q.
+    look-files q (put k kept es) (IsRising-put k kept es rising) ∙ elim (cases_eq k q) [
+      | inl here ↦ subst (λ j. file_at (look j (put k kept es)) ≡ look j (put k file (files_in es))) here
+          (ap file_at (look-put_same k kept es) ∙ is ∙ sym (look-put_same k file (files_in es)))
+      | inr other ↦ ap file_at (look-put_other q k kept es other) ∙ sym (look-files q es rising) ∙ sym (look-put_other q k file (files_in es) other)
+    ])
+
 pub files_less : (es : KeptFiles) (rising : IsRising es) (k : ℕ) → files_in (without k es) ≡ without k (files_in es)
 files_less es rising k = same_keyed (files_in (without k es)) (without k (files_in es)) (rising_files (without k es) (IsRising-without k es rising)) (IsRising-without k (files_in es) (rising_files es rising)) (λ q.
     look-files q (without k es) (IsRising-without k es rising) ∙ elim (cases_eq k q) [

@@ -13,7 +13,7 @@ use zb_types::{BlockList, Mem, NoMemory, Ptr};
 /// others moves none, and one before others moves these.
 #[derive(Drop)]
 pub(crate) struct BlockMap {
-    pairs: Vec<(u32, Ptr)>,
+    pub(crate) pairs: Vec<(u32, Ptr)>,
 }
 
 impl Model for BlockMap {

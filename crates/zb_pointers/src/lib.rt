@@ -5,6 +5,7 @@ mod blocks;
 mod head;
 mod in_order;
 mod kept;
+mod loading;
 mod looking;
 mod pointers;
 

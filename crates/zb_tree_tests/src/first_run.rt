@@ -72,7 +72,7 @@ fn made(manager: &Manager) -> Option<Fid> {
 }
 
 /// The file manager after the first run's two batches.
-fn after_first_run(alloc: Global) -> Result<Manager, Fail> {
+pub(crate) fn after_first_run(alloc: Global) -> Result<Manager, Fail> {
     let mut manager = new_manager(alloc)?;
     commit(alloc, &mut manager, &creation(alloc)?, &[piece(0, 45)])?;
     if made(&manager) != Some(Fid(1)) {

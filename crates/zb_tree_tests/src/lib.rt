@@ -3,6 +3,8 @@
 #![tactic(auto)]
 
 #[cfg(test)]
+mod checkpoint_bytes;
+#[cfg(test)]
 mod first_run;
 #[cfg(test)]
 mod history;

@@ -1,0 +1,10 @@
+pub mod Once
+pub mod Room
+pub mod InOrder
+pub mod Fitting
+pub mod Living
+pub mod Sorting
+pub mod Agreeing
+pub mod Uniting
+pub mod Missing
+pub mod Whole

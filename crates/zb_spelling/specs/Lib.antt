@@ -1,0 +1,5 @@
+pub mod Spelling
+pub mod Unspelling
+pub mod Parts
+pub mod Reading
+pub mod Limits

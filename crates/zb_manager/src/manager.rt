@@ -38,8 +38,8 @@ use zb_names::Names;
 use zb_pointers::{FileHead, Pointers};
 use zb_spelling::{Numbers, read, write};
 use zb_types::{
-    ByteList, CommitFault, Fid, Found, Geometry, HeldList, HeldUse, LogId, LogUse, LogUseList, Mem, Members,
-    NoMemory, Piece, PieceList, Ptr, Reply, State, Status,
+    ByteList, CommitFault, Fid, Found, Geometry, HeldList, HeldUse, LogId, LogUse, LogUseList, Mem,
+    Members, NoMemory, Piece, PieceList, Ptr, Reply, State, Status,
 };
 
 /// What a lookup tells of a file that isn't there.
@@ -402,6 +402,13 @@ impl Manager {
         ensures { result ≡ self.now.tables.next_log }
     {
         self.next_log
+    }
+
+    /// The number that the journal's next entry gets, from 1. At 2^48 it stands still, and no batch is prepared any more.
+    pub fn next_entry(&self) -> u64
+        ensures { result ≡ self.now.tables.next_entry }
+    {
+        self.next_entry
     }
 
     /// The servers that take part, with their generation.

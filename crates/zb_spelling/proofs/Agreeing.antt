@@ -1,17 +1,16 @@
 -- Tables with room for their numbers are a checkpoint's where they are within their limits and their parts agree.
-use Rattle.std.proofs.Common.{◌≡◌, ◌⊎◌, ℕ, ◌^◌, ◌≤◌, ◌<◌, Bool, true, false, eqb, List, [], ◌∷◌, length, Option, Some, None, refl, sym, ap, ◌∙◌, subst, inl, inr, arith}
-use Rattle.std.specs.Prelude.{◌==◌, ◌&&◌, ◌||◌, if◌then◌else◌, IsSome, is_some}
-use Rattle.std.specs.List.{AllByRecursion, list_any}
-use Rattle.std.proofs.lemmas.Bool.{and_parts, cond_both, eq-eqb, eqb-true, false≢true, or_cases, cases_Bool}
+use Rattle.std.proofs.Common.{◌≡◌, ◌⊎◌, ℕ, ◌^◌, ◌≤◌, ◌<◌, Bool, true, false, eqb, List, [], ◌∷◌, length, Some, refl, sym, ap, ◌∙◌, subst, inl, inr, arith}
+use Rattle.std.specs.Prelude.{◌&&◌, ◌||◌, if◌then◌else◌, IsSome}
+use Rattle.std.specs.List.{AllByRecursion}
+use Rattle.std.proofs.lemmas.Bool.{cond_both, eq-eqb, false≢true, or_cases, cases_Bool}
 use Rattle.zb_types.specs.declared.ids.Ptr.{Ptr}
 use Rattle.zb_types.specs.declared.tables.HeldUse.{HeldUse}
 use Rattle.zb_types.specs.Keyed.{look}
 use Rattle.zb_types.proofs.KeyedLists.{IsRising-from_ordered}
-use Rattle.zb_numbers.specs.Numbers.{IsBelow}
 use Rattle.zb_log_tables.specs.HeldStripes.{holds_any}
 use Rattle.zb_tables.specs.Tables.{FileState, LogState, Tables, is_of, held_at}
 use Rattle.zb_tables.specs.Taking.{IsPointer, Sizes}
-use Rattle.zb_tables.specs.Checkpoint.{AreTables, CountsFit, IsFile, IsHeld, IsLog, IsPlace}
+use Rattle.zb_tables.specs.Checkpoint.{AreTables, IsFile, IsHeld, IsLog, IsPlace}
 use Rattle.zb_tables.proofs.Alls.{all_map, all_two}
 use Rattle.zb_spelling.specs.Unspelling.{IsCheckpoint}
 use Rattle.zb_spelling.specs.Limits.{Agree, AreWithin, FileFits, HeldFits, LogFits, keeps}

@@ -1,6 +1,6 @@
 -- What is tested of rows is so of what they show.
-use Rattle.std.proofs.Common.{◌≡◌, ℕ, Bool, true, false, List, [], ◌∷◌, ◌++◌, ◌<◌, length, refl, sym, ap, ◌∙◌, subst, arith}
-use Rattle.std.specs.Prelude.{map, IsTrue, ◌↔◌, ◌==◌, nat_lt, if◌then◌else◌}
+use Rattle.std.proofs.Common.{◌≡◌, ℕ, Bool, false, List, [], ◌∷◌, ◌++◌, ◌<◌, length, refl, sym, ap, ◌∙◌, subst, arith}
+use Rattle.std.specs.Prelude.{map, IsTrue, nat_lt, if◌then◌else◌}
 use Rattle.std.specs.List.{AllByRecursion, flat_map}
 use Rattle.std.specs.List.Sorted.{IsStrictlySortedBy}
 use Rattle.std.specs.Map.{keys_of}
@@ -8,7 +8,7 @@ use Rattle.std.specs.Ordering.{nat_cmp}
 use Rattle.std.proofs.lemmas.Bool.{false≢true, le-ltb, ne_eqb}
 use Rattle.std.proofs.lemmas.List.{length-map}
 use Rattle.zb_types.specs.Keyed.{put}
-use Rattle.zb_types.proofs.KeyedLists.{IsRising, IsRising-from_ordered, KeysAbove}
+use Rattle.zb_types.proofs.KeyedLists.{IsRising, KeysAbove}
 use Rattle.zb_log_tables.specs.declared.log.Log.{Log}
 use Rattle.zb_log_tables.specs.Logs.{state_of}
 use Rattle.zb_tables.specs.Tables.{FileState, LogState}

@@ -1,11 +1,9 @@
 -- Where bytes begin with no part of the tables, and what is found where they do.
-use Rattle.std.proofs.Common.{◌≡◌, ℕ, ◌+◌, ◌<◌, ◌≤◌, Bool, true, false, List, [], ◌∷◌, ◌++◌, length, take, drop, Option, Some, None, refl, sym, ap, ◌∙◌, subst, append_assoc, arith, length-append}
+use Rattle.std.proofs.Common.{◌≡◌, ℕ, ◌<◌, ◌≤◌, Bool, true, false, List, ◌∷◌, ◌++◌, length, take, Option, Some, None, refl, sym, ap, ◌∙◌, append_assoc, arith, length-append}
 use Rattle.std.specs.Prelude.{IsTrue}
 use Rattle.std.specs.List.{flat_map, AllByRecursion}
 use Rattle.std.proofs.lemmas.List.{length-replicate}
 use Rattle.zb_types.specs.declared.ids.Ptr.{Ptr}
-use Rattle.zb_types.specs.declared.calls.Refusal.{Refusal}
-use Rattle.zb_types.specs.declared.calls.Reply.{Reply}
 use Rattle.zb_types.specs.declared.calls.Reply.TheVariants.{Done, Made, Refused}
 use Rattle.zb_types.specs.declared.nodes.State.{State}
 use Rattle.zb_types.specs.declared.nodes.State.TheVariants.{Whole, Out, Mending}
@@ -20,13 +18,13 @@ use Rattle.zb_delta.proofs.Lengths.{length-ptr_text}
 use Rattle.zb_batch.specs.Reading.{IsPath}
 use Rattle.zb_batch.specs.Spelling.{path_text}
 use Rattle.zb_batch.proofs.Once.{path_once, four}
-use Rattle.zb_tables.specs.Tables.{FileState, LogState}
+use Rattle.zb_tables.specs.Tables.{LogState}
 use Rattle.zb_tables.specs.Fold.{following}
 use Rattle.zb_tables.specs.Checkpoint.{IsUpdateReply}
 use Rattle.zb_spelling.specs.declared.head.Head.{Head}
-use Rattle.zb_spelling.specs.Spelling.{list_text, kind_of_entry, number_of_entry, entry_text, name_text, block_text, file_text, kind_of_reply, number_of_reply, reply_text, flag_of, owner_text, log_text, held_text, state_text}
-use Rattle.zb_spelling.specs.Reading.{IsAny, AreItems, AreSome, IsEntry, IsEntryOf, IsName, IsBlock, IsFileRow, IsReplyOf, IsRefusalOf, IsLogRow, IsHeldRow, IsHead, text_of_head}
-use Rattle.zb_spelling.proofs.Once.{heads, entry_once, entry_room, reply_room, owner_once, log_parts, head_parts, state_once}
+use Rattle.zb_spelling.specs.Spelling.{list_text, number_of_entry, entry_text, name_text, block_text, file_text, reply_text, flag_of, owner_text, log_text, held_text, state_text}
+use Rattle.zb_spelling.specs.Reading.{IsAny, AreItems, AreSome, IsEntry, IsName, IsBlock, IsFileRow, IsReplyOf, IsRefusalOf, IsLogRow, IsHeldRow, IsHead, text_of_head}
+use Rattle.zb_spelling.proofs.Once.{heads, owner_once, log_parts, head_parts, state_once}
 
 -- Lists.
 
@@ -95,8 +93,13 @@ length-file_head a b c d p q s = omega (arith, p, q, s, length-append a (b ++ (c
 
 pub file_too_short : (bytes : List ℕ) → length bytes < 16 → ReadsFront IsFileRow file_text bytes None
 file_too_short bytes less e r h same =
-    omega (arith, length-file_head (number_text 4 e.0) (number_text 8 (e.1).version) (number_text 4 (e.1).length) (list_text block_text (e.1).blocks)
-    (length-number_text 4 e.0) (length-number_text 8 (e.1).version) (length-number_text 4 (e.1).length), length-append (file_text e) r, ap length same)
+    omega (
+      arith,
+      length-file_head (number_text 4 e.0) (number_text 8 (e.1).version) (number_text 4 (e.1).length) (list_text block_text (e.1).blocks)
+          (length-number_text 4 e.0) (length-number_text 8 (e.1).version) (length-number_text 4 (e.1).length),
+      length-append (file_text e) r,
+      ap length same,
+    )
 
 pub no_file : (number version size : ℕ) (bytes a b c : List ℕ) → number_text 4 number ++ a ≡ bytes → number_text 8 version ++ b ≡ a → number_text 4 size ++ c ≡ b
     → ReadsFront (AreItems IsBlock) (list_text block_text) c None → ReadsFront IsFileRow file_text bytes None
@@ -137,8 +140,13 @@ length-log_head a b c d e f p q s t u =
 
 pub log_too_short : (bytes : List ℕ) → length bytes < 32 → ReadsFront IsLogRow log_text bytes None
 log_too_short bytes less e r h same =
-    omega (arith, length-log_head (number_text 4 e.0) (owner_text ((e.1).owner, (e.1).live)) (number_text 8 (e.1).batch) (number_text 8 (following (e.1).last)) (number_text 8 (e.1).mark) (list_text reply_text (e.1).replies)
-    (length-number_text 4 e.0) refl (length-number_text 8 (e.1).batch) (length-number_text 8 (following (e.1).last)) (length-number_text 8 (e.1).mark), length-append (log_text e) r, ap length same)
+    omega (
+      arith,
+      length-log_head (number_text 4 e.0) (owner_text ((e.1).owner, (e.1).live)) (number_text 8 (e.1).batch) (number_text 8 (following (e.1).last)) (number_text 8 (e.1).mark) (list_text reply_text (e.1).replies)
+          (length-number_text 4 e.0) refl (length-number_text 8 (e.1).batch) (length-number_text 8 (following (e.1).last)) (length-number_text 8 (e.1).mark),
+      length-append (log_text e) r,
+      ap length same,
+    )
 
 flag_small : (live : Bool) → flag_of live ≤ 1
 flag_small true = omega arith

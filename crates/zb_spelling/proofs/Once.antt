@@ -1,16 +1,13 @@
 -- The bytes of each part of the tables determine it.
-use Rattle.std.proofs.Common.{◌≡◌, ℕ, ◌+◌, ◌≤◌, Bool, true, false, List, ◌∷◌, ◌++◌, length, Option, Some, None, refl, sym, ap, ◌∙◌, append_assoc, arith}
+use Rattle.std.proofs.Common.{◌≡◌, ℕ, ◌≤◌, Bool, true, false, List, ◌∷◌, ◌++◌, length, Option, Some, None, refl, sym, ap, ◌∙◌, append_assoc, arith}
 use Rattle.std.specs.Prelude.{◌==◌, if◌then◌else◌}
-use Rattle.std.specs.List.{flat_map, AllByRecursion}
+use Rattle.std.specs.List.{flat_map}
 use Rattle.std.proofs.lemmas.List.{append_cancel_left}
-use Rattle.zb_types.specs.declared.ids.Ptr.{Ptr}
 use Rattle.zb_types.specs.declared.calls.Refusal.{Refusal}
 use Rattle.zb_types.specs.declared.calls.Refusal.TheVariants.{NoEntry, NotDir, IsDir, Exists, Inside, NotEmpty, Gone, TooBig, Full}
 use Rattle.zb_types.specs.declared.calls.Reply.{Reply}
 use Rattle.zb_types.specs.declared.calls.Reply.TheVariants.{Done, Made, Refused}
-use Rattle.zb_types.specs.declared.nodes.State.{State}
 use Rattle.zb_types.specs.declared.nodes.State.TheVariants.{Whole, Out, Mending}
-use Rattle.zb_types.specs.declared.tables.HeldUse.{HeldUse}
 use Rattle.zb_types.specs.Names.{Entry, directory, numbered}
 use Rattle.zb_numbers.specs.Fronts.{IsPrefixFree}
 use Rattle.zb_numbers.specs.Numbers.{number_text, IsBelow, zeros}
@@ -245,13 +242,15 @@ tables_once t u r s h g e =
     let names = list_once IsName name_text name_once t.names.entries u.names.entries _ _ h.names g.names head.1 in
     let files = list_once IsFileRow file_text file_once t.files u.files _ _ h.files g.files names.1 in
     let logs = list_once IsLogRow log_text log_once t.logs u.logs _ _ h.logs g.logs files.1 in
-    let held = list_once IsHeldRow held_text held_once t.held u.held r s h.held g.held logs.1 in
-    (λ i. record {
-      names = record { next = (head.0 i).next_file; entries = names.0 i };
-      files = files.0 i;
-      logs = logs.0 i;
-      held = held.0 i;
-      members = (head.0 i).numbers.members;
-      next_log = (head.0 i).numbers.next_log;
-      next_entry = (head.0 i).numbers.next_entry;
-    }, held.1)
+    let held = list_once IsHeldRow held_text held_once t.held u.held r s h.held g.held logs.1 in (
+      λ i. record {
+        names = record { next = (head.0 i).next_file; entries = names.0 i };
+        files = files.0 i;
+        logs = logs.0 i;
+        held = held.0 i;
+        members = (head.0 i).numbers.members;
+        next_log = (head.0 i).numbers.next_log;
+        next_entry = (head.0 i).numbers.next_entry;
+      },
+      held.1,
+    )

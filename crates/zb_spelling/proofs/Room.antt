@@ -1,6 +1,6 @@
 -- The numbers of a checkpoint's tables have room in their bytes.
-use Rattle.std.proofs.Common.{◌≡◌, ℕ, ◌+◌, ◌*◌, ◌^◌, ◌≤◌, ◌<◌, Bool, true, List, [], ◌∷◌, length, Option, Some, None, arith}
-use Rattle.std.specs.Prelude.{◌&&◌, IsSome, IfSome, nat_le, nat_lt}
+use Rattle.std.proofs.Common.{◌≡◌, ℕ, ◌^◌, ◌≤◌, ◌<◌, true, List, length, arith}
+use Rattle.std.specs.Prelude.{nat_le, nat_lt}
 use Rattle.std.specs.List.{AllByRecursion}
 use Rattle.std.proofs.lemmas.Bool.{and_parts, ltb-true}
 use Rattle.zb_types.specs.declared.ids.Ptr.{Ptr}
@@ -8,16 +8,14 @@ use Rattle.zb_types.specs.declared.tables.HeldUse.{HeldUse}
 use Rattle.zb_types.specs.Names.{Entry, directory, numbered, last_number}
 use Rattle.zb_types.specs.Keyed.{look}
 use Rattle.zb_types.specs.Paths.{is_path}
-use Rattle.zb_numbers.specs.Numbers.{IsBelow}
-use Rattle.zb_delta.specs.Spelling.{IsPtr}
 use Rattle.zb_names.specs.Sound.{has_number}
 use Rattle.zb_tables.specs.Tables.{FileState, LogState, Tables}
-use Rattle.zb_tables.specs.Taking.{IsPointer, Sizes, stripe_room}
-use Rattle.zb_tables.specs.Checkpoint.{AreTables, CountsFit, IsFile, IsHeld, IsLog, IsPlace, IsUpdateReply}
+use Rattle.zb_tables.specs.Taking.{IsPointer, Sizes}
+use Rattle.zb_tables.specs.Checkpoint.{IsFile, IsHeld, IsLog, IsPlace}
 use Rattle.zb_tables.proofs.Alls.{all_keyed, all_map, all_two, some_is}
 use Rattle.zb_tables.proofs.Fewness.{few_files, few_logs}
 use Rattle.zb_spelling.specs.Unspelling.{HasFewBytes, IsCheckpoint}
-use Rattle.zb_spelling.specs.Reading.{AreItems, IsEntry, IsName, IsBlock, IsFileRow, IsLogRow, IsHeldRow, IsHead, head_of, HasRoom}
+use Rattle.zb_spelling.specs.Reading.{IsEntry, IsName, IsBlock, IsFileRow, IsLogRow, IsHeldRow, HasRoom}
 
 entry_fits : (next : ℕ) (entry : Entry) → next ≤ last_number → has_number next entry ≡ true → IsEntry entry
 entry_fits next directory le h = tt

@@ -1,6 +1,6 @@
 -- Numbers in order that are those of others in order.
-use Rattle.std.proofs.Common.{◌≡◌, ℕ, suc, ◌+◌, ◌≤◌, ◌<◌, Bool, true, false, eqb, List, [], ◌∷◌, length, get_or, refl, sym, ap, ◌∙◌, subst, inl, inr, arith}
-use Rattle.std.specs.Prelude.{◌==◌, ◌↔◌, IsTrue, if◌then◌else◌}
+use Rattle.std.proofs.Common.{◌≡◌, ℕ, suc, ◌+◌, ◌≤◌, ◌<◌, Bool, false, eqb, List, [], ◌∷◌, length, get_or, refl, sym, ap, ◌∙◌, subst, inl, inr, arith}
+use Rattle.std.specs.Prelude.{◌↔◌, IsTrue, if◌then◌else◌}
 use Rattle.std.specs.List.{AllByRecursion}
 use Rattle.std.specs.List.Sorted.{IsPermutation, IsSorted, IsStrictlySortedBy}
 use Rattle.std.specs.Ordering.{nat_cmp, is_lt}
@@ -50,9 +50,9 @@ same_falling (x ∷ xs) (y ∷ ys) f g same =
     let high = first_least y x ys xs f.0 (λ n. sym (same n)) in
     let head : x ≡ y = omega arith in
     let rest = same_falling xs ys f.1 g.1 (λ n.
-        let all = same n in
-        let firsts : one n x ≡ one n y = ap (one n) head in
-        omega arith) in
+    let all = same n in
+    let firsts : one n x ≡ one n y = ap (one n) head in
+    omega arith) in
     λ i. head i ∷ rest i
 
 less_from : (x : ℕ) (ys : List ℕ) → AllByRecursion (λ y. nat_cmp x y ≡ Less) ys → AllFrom x ys

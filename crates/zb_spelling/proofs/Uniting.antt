@@ -1,11 +1,10 @@
 -- When the parts of what was read agree.
-use Rattle.std.proofs.Common.{◌≡◌, ℕ, Bool, true, false, List, [], ◌∷◌, refl, sym, ap, ◌∙◌, subst}
-use Rattle.std.specs.Prelude.{map, IsTrue, is_some, IsSome}
+use Rattle.std.proofs.Common.{◌≡◌, ℕ, Bool, true, false, List, sym, subst}
+use Rattle.std.specs.Prelude.{map, IsTrue, is_some}
 use Rattle.std.specs.List.{AllByRecursion, flat_map}
 use Rattle.std.specs.List.Sorted.{IsPermutation, IsStrictlySortedBy}
 use Rattle.std.specs.Map.{keys_of}
 use Rattle.std.specs.Ordering.{nat_cmp}
-use Rattle.std.proofs.lemmas.Bool.{false≢true}
 use Rattle.zb_types.specs.declared.tables.HeldUse.{HeldUse}
 use Rattle.zb_types.specs.Names.{Entry, Names}
 use Rattle.zb_types.specs.Keyed.{look}
@@ -14,7 +13,7 @@ use Rattle.zb_names.specs.Shown.{listed, seen}
 use Rattle.zb_names.specs.Sound.{IsTree}
 use Rattle.zb_log_tables.specs.declared.log.Log.{Log}
 use Rattle.zb_log_tables.specs.Logs.{IsLast, state_of, states_of}
-use Rattle.zb_tables.specs.Tables.{FileState, LogState, Tables}
+use Rattle.zb_tables.specs.Tables.{FileState, LogState}
 use Rattle.zb_tables.specs.Taking.{Sizes}
 use Rattle.zb_tables.specs.Checkpoint.{number_of, numbers_of}
 use Rattle.zb_tables.proofs.Alls.{all_map}

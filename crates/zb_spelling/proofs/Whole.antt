@@ -1,5 +1,5 @@
 -- The whole of the tables: where bytes begin with none, and what a reader makes of what it finds.
-use Rattle.std.proofs.Common.{◌≡◌, ℕ, zero, suc, ◌+◌, ◌*◌, ◌-◌, ◌^◌, ◌<◌, ◌≤◌, Bool, true, false, List, [], ◌∷◌, ◌++◌, length, Option, Some, None, refl, sym, ap, ◌∙◌, subst, arith}
+use Rattle.std.proofs.Common.{◌≡◌, ℕ, zero, suc, ◌*◌, ◌-◌, ◌^◌, ◌<◌, ◌≤◌, Bool, true, false, List, [], ◌∷◌, ◌++◌, length, Option, Some, None, refl, sym, ap, ◌∙◌, subst, arith}
 use Rattle.std.specs.Prelude.{◌==◌, Result, Ok, Err, IfOk, option_map}
 use Rattle.std.proofs.lemmas.Bool.{eqb-true, false≢true}
 use Rattle.std.proofs.lemmas.List.{append-nil}
@@ -17,7 +17,7 @@ use Rattle.zb_spelling.specs.declared.parts.Parts.{Parts}
 use Rattle.zb_spelling.specs.Parts.{tables_of}
 use Rattle.zb_spelling.specs.Spelling.{list_text, name_text, file_text, log_text, held_text, spelling_of_tables}
 use Rattle.zb_spelling.specs.Unspelling.{HasFewBytes, IsCheckpoint, Unspells, sizes_of}
-use Rattle.zb_spelling.specs.Limits.{Agree, AreWithin, Unites}
+use Rattle.zb_spelling.specs.Limits.{AreWithin, Unites}
 use Rattle.zb_spelling.specs.Reading.{AreItems, IsName, IsFileRow, IsLogRow, IsHeldRow, IsHead, text_of_head, head_of, HasRoom}
 use Rattle.zb_spelling.proofs.Once.{head_once, name_once, file_once, log_once, list_once, tables_once, tables_parts}
 use Rattle.zb_spelling.proofs.Room.{checkpoint_room}
@@ -69,12 +69,12 @@ module _ (head : Head) (bytes a : List ℕ) (first : IsHead head × (text_of_hea
             held = subst (AreItems IsHeldRow) (sym is_held) fifth.0;
           },
           tables_parts t e
-          ∙ (λ i. text_of_head (is_head i) ++ (list_text name_text (is_names i) ++ (list_text file_text (is_files i) ++ (list_text log_text (is_logs i) ++ (list_text held_text (is_held i) ++ e)))))
-          ∙ ap (λ (x : List ℕ). text_of_head head ++ (list_text name_text names ++ (list_text file_text files ++ (list_text log_text logs ++ x)))) fifth.1
-          ∙ ap (λ (x : List ℕ). text_of_head head ++ (list_text name_text names ++ (list_text file_text files ++ x))) fourth.1
-          ∙ ap (λ (x : List ℕ). text_of_head head ++ (list_text name_text names ++ x)) third.1
-          ∙ ap (λ (x : List ℕ). text_of_head head ++ x) second.1
-          ∙ first.1,
+              ∙ (λ i. text_of_head (is_head i) ++ (list_text name_text (is_names i) ++ (list_text file_text (is_files i) ++ (list_text log_text (is_logs i) ++ (list_text held_text (is_held i) ++ e)))))
+              ∙ ap (λ (x : List ℕ). text_of_head head ++ (list_text name_text names ++ (list_text file_text files ++ (list_text log_text logs ++ x)))) fifth.1
+              ∙ ap (λ (x : List ℕ). text_of_head head ++ (list_text name_text names ++ (list_text file_text files ++ x))) fourth.1
+              ∙ ap (λ (x : List ℕ). text_of_head head ++ (list_text name_text names ++ x)) third.1
+              ∙ ap (λ (x : List ℕ). text_of_head head ++ x) second.1
+              ∙ first.1,
         )
 
 -- Sizes of a system.

@@ -1,5 +1,4 @@
 -- The tables, put together of their parts.
-use Rattle.std.specs.Prelude.{ℕ}
 use Rattle.zb_types.specs.Names.{Names}
 use Rattle.zb_tables.specs.Tables.{Tables}
 use Rattle.zb_pointers.specs.Seen.{SeenPointers}

@@ -1,10 +1,9 @@
 -- What the reader finds part by part: numbers that have room in their bytes.
-use Rattle.std.specs.Prelude.{◌≡◌, ℕ, ◌+◌, ◌^◌, ◌<◌, List, map, length, Option, Some, None, IfSome}
+use Rattle.std.specs.Prelude.{◌≡◌, ℕ, List, map, length, Option, Some, None}
 use Rattle.std.specs.List.{AllByRecursion}
 use Rattle.zb_types.specs.declared.ids.Ptr.{Ptr}
 use Rattle.zb_types.specs.declared.calls.Refusal.{Refusal}
 use Rattle.zb_types.specs.declared.calls.Reply.{Reply}
-use Rattle.zb_types.specs.declared.nodes.Members.{Members}
 use Rattle.zb_types.specs.declared.tables.HeldUse.{HeldUse}
 use Rattle.zb_types.specs.Names.{Entry, directory, numbered}
 use Rattle.zb_numbers.specs.Numbers.{IsBelow}

@@ -81,9 +81,7 @@ fn is_there(logs: &LogTable, log: LogId) -> bool
 fn all_there(held: &HeldTable, logs: &LogTable) -> bool
     ensures { IsTrue result ↔ AllByRecursion (λ h. is_some (look h.log.0 logs.now.logs) ≡ true) held.now.stripes }
 {
-    held.slice()
-        .iter()
-        .all(|stripe| is_there(logs, stripe.log))
+    held.slice().iter().all(|stripe| is_there(logs, stripe.log))
 }
 
 // The files, whose numbers and whose blocks' numbers rise.

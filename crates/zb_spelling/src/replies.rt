@@ -70,11 +70,7 @@ fn parts_of(reply: &Reply) -> (u8, u32)
     match reply {
         Reply::Made(fid) => (1, fid.0),
         Reply::Refused(why) => (kind_of_refusal(*why), 0),
-        Reply::Done
-        | Reply::Bytes(_)
-        | Reply::Names(_)
-        | Reply::Dir
-        | Reply::File { .. } => (0, 0),
+        Reply::Done | Reply::Bytes(_) | Reply::Names(_) | Reply::Dir | Reply::File { .. } => (0, 0),
     }
 }
 

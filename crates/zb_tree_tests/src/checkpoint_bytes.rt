@@ -5,40 +5,33 @@ use zb_types::{Geometry, LogId};
 
 /// The checkpoint of the empty tables: next file 1, next log 1, all servers, generation 1, next entry 1, and no items.
 const EMPTY: [u8; 44] = [
-    0, 0, 0, 1, 0, 0, 0, 1, 0, 0, 0, 0, 0, 0, 0, 0, 0, 0, 0, 1,
-    0, 0, 0, 0, 0, 0, 0, 1, 0, 0, 0, 0, 0, 0, 0, 0, 0, 0, 0, 0,
-    0, 0, 0, 0,
+    0, 0, 0, 1, 0, 0, 0, 1, 0, 0, 0, 0, 0, 0, 0, 0, 0, 0, 0, 1, 0, 0, 0, 0, 0, 0, 0, 1, 0, 0, 0, 0,
+    0, 0, 0, 0, 0, 0, 0, 0, 0, 0, 0, 0,
 ];
 
 /// After the first run: next file 2, next log 2, all servers, generation 1, next entry 4.
 const HEAD: [u8; 28] = [
-    0, 0, 0, 2, 0, 0, 0, 2, 0, 0, 0, 0, 0, 0, 0, 0, 0, 0, 0, 1,
-    0, 0, 0, 0, 0, 0, 0, 4,
+    0, 0, 0, 2, 0, 0, 0, 2, 0, 0, 0, 0, 0, 0, 0, 0, 0, 0, 0, 1, 0, 0, 0, 0, 0, 0, 0, 4,
 ];
 
 /// One name: `/a`, which is file 1.
-const NAMES: [u8; 13] = [
-    0, 0, 0, 1, 0, 2, 47, 97, 2, 0, 0, 0, 1,
-];
+const NAMES: [u8; 13] = [0, 0, 0, 1, 0, 2, 47, 97, 2, 0, 0, 0, 1];
 
 /// File 1 at version 2 with five bytes, in block 0 at byte 177 of stripe 0 of log 1.
 const FILES: [u8; 48] = [
-    0, 0, 0, 1, 0, 0, 0, 1, 0, 0, 0, 0, 0, 0, 0, 2, 0, 0, 0, 5,
-    0, 0, 0, 1, 0, 0, 0, 0, 0, 0, 0, 1, 0, 0, 0, 0, 0, 0, 0, 0,
-    0, 0, 0, 177, 0, 0, 0, 5,
+    0, 0, 0, 1, 0, 0, 0, 1, 0, 0, 0, 0, 0, 0, 0, 2, 0, 0, 0, 5, 0, 0, 0, 1, 0, 0, 0, 0, 0, 0, 0, 1,
+    0, 0, 0, 0, 0, 0, 0, 0, 0, 0, 0, 177, 0, 0, 0, 5,
 ];
 
 /// Log 1 of client 1, which lives: batch 2 in stripe 0, no mark, and two replies `Done`.
 const LOGS: [u8; 50] = [
-    0, 0, 0, 1, 0, 0, 0, 1, 1, 1, 0, 0, 0, 0, 0, 0, 0, 0, 0, 2,
-    0, 0, 0, 0, 0, 0, 0, 1, 0, 0, 0, 0, 0, 0, 0, 0, 0, 0, 0, 2,
-    0, 0, 0, 0, 0, 0, 0, 0, 0, 0,
+    0, 0, 0, 1, 0, 0, 0, 1, 1, 1, 0, 0, 0, 0, 0, 0, 0, 0, 0, 2, 0, 0, 0, 0, 0, 0, 0, 1, 0, 0, 0, 0,
+    0, 0, 0, 0, 0, 0, 0, 2, 0, 0, 0, 0, 0, 0, 0, 0, 0, 0,
 ];
 
 /// Stripe 0 of log 1, committed up to byte 182, and first named by entry 2.
 const HELD: [u8; 28] = [
-    0, 0, 0, 1, 0, 0, 0, 1, 0, 0, 0, 0, 0, 0, 0, 0, 0, 0, 0, 182,
-    0, 0, 0, 0, 0, 0, 0, 2,
+    0, 0, 0, 1, 0, 0, 0, 1, 0, 0, 0, 0, 0, 0, 0, 0, 0, 0, 0, 182, 0, 0, 0, 0, 0, 0, 0, 2,
 ];
 
 /// Whether these bytes stand at the front; what stands behind them.

@@ -1,8 +1,4 @@
-use Rattle.std.proofs.Common.{◌≡◌, refl, sym, ap, ◌∙◌, subst}
-use Rattle.std.specs.List.{AllByRecursion}
-use Rattle.std.specs.List.Sorted.{IsStrictlySortedBy}
-use Rattle.std.specs.Map.{keys_of}
-use Rattle.std.specs.Ordering.{nat_cmp}
+use Rattle.std.proofs.Common.{refl}
 use Rattle.zb_spelling.specs.Unspelling.{sizes_of}
 use Rattle.zb_spelling.proofs.Uniting.{agreed, blocks_rise, built, lasts, not_kept, not_named, not_there}
 use Rattle.zb_spelling.proofs.building.build.Goals as goal
@@ -33,6 +29,7 @@ returns-clause-tables c =
     let kept = rw c.deref-3.ensures.value at c.all_kept.ensures in
     let same = rw (c.in-Some.is, c.deref-4.ensures.value) at c.in_ok-names.ensures.same in
     let tree = rw (c.in-Some.is, c.deref-4.ensures.value) at c.in_ok-names.ensures.exact in
-    let files = rw c.deref-5.ensures.value at c.in_ok-pointers.ensures.files in
-    (built c.args.rows c.in-Some.names c.in_ok-pointers.pointers.files c.of-logs.result.logs c.of-held.result.stripes same files c.of-logs.ensures c.of-held.ensures,
-     agreed c.args.rows c.of-held.result.stripes c.of-held.ensures c.of-logs.result.logs c.of-logs.ensures (named.0 c.if-not-named.false) (kept.0 c.if-not-all_kept.false) (c.all_there.ensures.0 c.if-not-all_there.false) (tree.0 refl))
+    let files = rw c.deref-5.ensures.value at c.in_ok-pointers.ensures.files in (
+      built c.args.rows c.in-Some.names c.in_ok-pointers.pointers.files c.of-logs.result.logs c.of-held.result.stripes same files c.of-logs.ensures c.of-held.ensures,
+      agreed c.args.rows c.of-held.result.stripes c.of-held.ensures c.of-logs.result.logs c.of-logs.ensures (named.0 c.if-not-named.false) (kept.0 c.if-not-all_kept.false) (c.all_there.ensures.0 c.if-not-all_there.false) (tree.0 refl),
+    )

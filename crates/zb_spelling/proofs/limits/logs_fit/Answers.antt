@@ -15,8 +15,11 @@ pub returns-then-not-each_lives_once : goal.returns-then-not-each_lives_once
 returns-then-not-each_lives_once c = (λ told. absurd cc, λ fit. sym c.if-not-each_lives_once.true ∙ c.each_lives_once.ensures.1 fit.once)
 
 pub returns : goal.returns
-returns c = (λ told. record {
-  rising = rising_shown shown_log c.args.logs.now (c.rise.ensures.0 c.if-not-rise.false);
-  each = all_shown shown_log (LogFits (sizes_of c.args.geo.now) c.args.next) c.args.logs.now (c.each_log_fits.ensures.0 told);
-  once = c.each_lives_once.ensures.0 c.if-not-each_lives_once.false;
-}, λ fit. c.each_log_fits.ensures.1 (all_showing shown_log (LogFits (sizes_of c.args.geo.now) c.args.next) c.args.logs.now fit.each))
+returns c = (
+  λ told. record {
+    rising = rising_shown shown_log c.args.logs.now (c.rise.ensures.0 c.if-not-rise.false);
+    each = all_shown shown_log (LogFits (sizes_of c.args.geo.now) c.args.next) c.args.logs.now (c.each_log_fits.ensures.0 told);
+    once = c.each_lives_once.ensures.0 c.if-not-each_lives_once.false;
+  },
+  λ fit. c.each_log_fits.ensures.1 (all_showing shown_log (LogFits (sizes_of c.args.geo.now) c.args.next) c.args.logs.now fit.each),
+)

@@ -1,7 +1,6 @@
-use Rattle.std.proofs.Common.{◌∙◌, List, map, subst, sym}
+use Rattle.std.proofs.Common.{subst, sym}
 use Rattle.std.specs.List.Sorted.{IsStrictlySortedBy}
 use Rattle.std.proofs.lemmas.List.{map-id}
-use Rattle.zb_types.specs.declared.tables.HeldUse.{HeldUse}
 use Rattle.zb_tables.specs.Checkpoint.{held_cmp}
 use Rattle.zb_spelling.proofs.Fitting.{failed}
 use Rattle.zb_spelling.proofs.InOrder.{held_transitive}

@@ -1,6 +1,4 @@
-use Rattle.std.proofs.Common.{◌≡◌, ℕ, List, ◌++◌, ap, ◌∙◌}
-use Rattle.std.specs.Prelude.{OnOk}
-use Rattle.zb_types.specs.Names.{Entry}
+use Rattle.std.proofs.Common.{ap, ◌∙◌}
 use Rattle.zb_spelling.specs.Spelling.{list_text, name_text}
 use Rattle.zb_spelling.specs.Reading.{shown_name}
 use Rattle.zb_spelling.proofs.Fitting.{list_text-shown}

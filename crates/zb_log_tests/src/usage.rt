@@ -1,4 +1,5 @@
 ghost use Rattle.std.specs.Prelude.{◌≤◌, ◌<◌};
+ghost use Rattle.zb_conflict.specs.Table.{IsNoReject};
 
 use std::alloc::Global;
 use std::collections::BTreeMap;
@@ -9,7 +10,7 @@ use zb_pointers::FileHead;
 use zb_types::{
     Fid, HeldList, HeldUse, LogId, LogUse, LogUseList, Mem, Members, NoMemory, Ptr, State, Status,
 };
-use zb_usage::{Policy, StripeUse, Usage, most_dead, oldest};
+use zb_usage::{Chooses, Policy, StripeUse, Usage, most_dead, oldest};
 
 const LOG: LogId = LogId(1);
 
@@ -84,7 +85,9 @@ impl Bench {
     }
 
     /// Takes a delta as the file manager does.
-    fn take(&mut self, alloc: Global, delta: Delta, body: Body) -> Result<(), Fail> {
+    fn take(&mut self, alloc: Global, delta: Delta, body: Body) -> Result<(), Fail>
+        requires { IsNoReject delta }
+    {
         let head = FileHead {
             version: 1,
             length: 0,

@@ -15,6 +15,6 @@ pub use laws::{
     a_renewed_usage_counts_the_use, counts_give_the_candidates, live_pointers_tell_the_use,
 };
 pub use picks::{most_dead, oldest};
-pub use policy::{Choose, Policy};
+pub use policy::{Choose, Chooses, Policy};
 pub use stripe_use::StripeUse;
 pub use usage::Usage;

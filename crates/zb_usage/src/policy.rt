@@ -6,6 +6,13 @@ use crate::stripe_use::StripeUse;
 /// What chooses a stripe of a list, by its place from 0.
 pub type Choose = Box<dyn Fn(&[StripeUse]) -> usize + Send>;
 
+/// Chooses a stripe of a list that isn't empty, by its place from 0.
+pub trait Chooses: Drop {
+    fn choose(&self, list: &[StripeUse]) -> usize
+        requires { 1 ≤ length list.now }
+        ensures { result < length list.now };
+}
+
 /// How the cleaner chooses a stripe: a closure whose answer, on each list that isn't empty, is a place of the list.
 #[derive(Drop)]
 pub struct Policy {
@@ -22,12 +29,11 @@ impl Policy {
     {
         Policy { choose }
     }
+}
 
-    /// The place of the stripe that the closure chooses, which is below the length of the list.
-    pub fn choose(&self, list: &[StripeUse]) -> usize
-        requires { 1 ≤ length list.now }
-        ensures { result < length list.now }
-    {
+impl Chooses for Policy {
+    /// The place of the stripe that the closure chooses.
+    fn choose(&self, list: &[StripeUse]) -> usize {
         (self.choose)(list)
     }
 }

@@ -1,0 +1,4 @@
+pub mod Counted
+pub mod Named
+pub mod Newest
+pub mod Closed

@@ -1,0 +1,4 @@
+pub mod Uses
+pub mod Noting
+pub mod Seen
+pub mod Choosing

@@ -1,8 +1,8 @@
 -- The notes of operations tell how the use of stripes changes.
-use Rattle.std.proofs.Common.{◌≡◌, ℕ, ◌+◌, ◌<◌, Bool, true, false, List, [], ◌∷◌, ◌++◌, map, Option, Some, None, refl, sym, ap, ◌∙◌, subst, inl, inr, arith}
+use Rattle.std.proofs.Common.{◌≡◌, ℕ, ◌+◌, ◌<◌, Bool, true, false, List, [], ◌∷◌, ◌++◌, Option, Some, None, refl, sym, ap, ◌∙◌, subst, arith}
 use Rattle.std.specs.Prelude.{if◌then◌else◌, ◌==◌, nat_lt, Result, Ok, Err, IfOk, is_ok}
 use Rattle.std.specs.List.{AllByRecursion}
-use Rattle.std.proofs.lemmas.Bool.{cases_Bool, false≢true}
+use Rattle.std.proofs.lemmas.Bool.{false≢true}
 use Rattle.zb_types.specs.declared.ids.Fid.{Fid}
 use Rattle.zb_types.specs.declared.ids.LogId.{LogId}
 use Rattle.zb_types.specs.declared.ids.Piece.{Piece}
@@ -10,10 +10,10 @@ use Rattle.zb_types.specs.declared.ids.Ptr.{Ptr}
 use Rattle.zb_types.specs.declared.calls.Call.{Call}
 use Rattle.zb_types.specs.declared.calls.Call.TheVariants.{Create, Mkdir, Remove, Rename, Write as WriteCall, Truncate, Sync as SyncCall, Read, List as ListOf, Stat, Find}
 use Rattle.zb_types.specs.declared.calls.Refusal.{Refusal}
-use Rattle.zb_types.specs.declared.calls.Refusal.TheVariants.{Gone, TooBig}
+use Rattle.zb_types.specs.declared.calls.Refusal.TheVariants.{TooBig}
 use Rattle.zb_types.specs.declared.calls.Reply.TheVariants.{Refused}
 use Rattle.zb_types.specs.Keyed.{look, put, replaced, without}
-use Rattle.zb_types.specs.Names.{Entry, directory, numbered, Change, same, makes, drops, dropped, find, name_refusal}
+use Rattle.zb_types.specs.Names.{Entry, directory, numbered, dropped, find, name_refusal}
 use Rattle.zb_types.specs.Tree.{files_after}
 use Rattle.zb_types.specs.Apply.{max_file}
 use Rattle.zb_types.proofs.KeyedLists.{IsRising, IsRising-put, IsRising-from_ordered, without_absent}
@@ -26,7 +26,7 @@ use Rattle.zb_batch.specs.declared.batch.Op.TheVariants.{Name, Write, Cut, Sync,
 use Rattle.zb_batch.specs.Batches.{IsOp}
 use Rattle.zb_batch.specs.Spelling.{deltas_of}
 use Rattle.zb_tables.specs.Tables.{FileState, Tables, EachFile}
-use Rattle.zb_tables.specs.Fold.{Files, Shelf, Stale, after_cut, after_write, all_moved, and_then, below, blocks_in, committed, cut, done_op, done_ops, is_movable, moved, moved_in, named, new_file, replied, resized, same_place, shelf_of, with_blocks, with_file}
+use Rattle.zb_tables.specs.Fold.{Files, Shelf, Stale, after_cut, after_write, all_moved, and_then, below, blocks_in, committed, done_op, done_ops, is_movable, moved, moved_in, named, new_file, replied, resized, shelf_of, with_blocks, with_file}
 use Rattle.zb_tables.specs.Pointing.{AllNow}
 use Rattle.zb_tables.specs.Taking.{IsPointer, MayCommit, Sizes}
 use Rattle.zb_tables.specs.Checkpoint.{AreTables, IsFile, numbers_of}
@@ -34,7 +34,7 @@ use Rattle.zb_tables.proofs.Alls.{all_map, rising_kept}
 use Rattle.zb_tables.proofs.Counted.{times_same}
 use Rattle.zb_tables.proofs.Each.{each_look, each_replaced}
 use Rattle.zb_tables.proofs.NamesForm.{above_none}
-use Rattle.zb_tables.proofs.OpsForm.{FilesForm, ShelfForm, ops_form}
+use Rattle.zb_tables.proofs.OpsForm.{ShelfForm, ops_form}
 use Rattle.zb_pointers.specs.Seen.{blocks_of}
 use Rattle.zb_usage.specs.Uses.{bytes_in, stripe_use}
 use Rattle.zb_usage.specs.Noting.{come, gone}

@@ -1,10 +1,10 @@
 -- The notes of a batch: which pointers it sets, and which bytes nothing names any longer or ever.
-use Rattle.std.specs.Prelude.{ℕ, ◌+◌, Bool, true, false, nat_le, nat_lt, if◌then◌else◌, List, [], ◌∷◌, ◌++◌, map, filter, Option, Some, None, Result, Ok, Err}
+use Rattle.std.specs.Prelude.{ℕ, ◌+◌, nat_le, nat_lt, if◌then◌else◌, List, [], ◌∷◌, ◌++◌, map, filter, Option, Some, None, Result, Ok, Err}
 use Rattle.zb_types.specs.declared.ids.Ptr.{Ptr}
 use Rattle.zb_types.specs.declared.calls.Call.{Call}
 use Rattle.zb_types.specs.declared.calls.Refusal.{Refusal}
 use Rattle.zb_types.specs.Keyed.{look, put}
-use Rattle.zb_types.specs.Names.{Names, Change, same, makes, drops, name_change, name_refusal}
+use Rattle.zb_types.specs.Names.{Change, same, makes, drops, name_change, name_refusal}
 use Rattle.zb_types.specs.Apply.{max_file}
 use Rattle.zb_delta.specs.declared.delta.Delta.{Delta}
 use Rattle.zb_delta.specs.declared.delta.Delta.TheVariants.{Reject}

@@ -1,8 +1,7 @@
 -- How many bytes of a stripe lists of pointers name.
-use Rattle.std.proofs.Common.{◌≡◌, ℕ, ◌+◌, ◌<◌, ◌≤◌, Bool, true, false, List, [], ◌∷◌, ◌++◌, map, Option, Some, None, refl, sym, ap, ◌∙◌, subst, inl, inr, arith}
+use Rattle.std.proofs.Common.{◌≡◌, ℕ, ◌+◌, Bool, true, false, List, [], ◌∷◌, ◌++◌, map, Option, Some, None, refl, sym, ap, ◌∙◌, inl, inr, arith}
 use Rattle.std.specs.Prelude.{if◌then◌else◌, ◌==◌, ◌&&◌, filter}
 use Rattle.std.specs.List.{AllByRecursion, flat_map}
-use Rattle.std.specs.List.Sorted.{IsStrictlySortedBy}
 use Rattle.std.proofs.lemmas.Bool.{cases_Bool, cases_lt, and_parts, eqb-true, eq-eqb, ne_eqb}
 use Rattle.std.proofs.lemmas.Option.{none-some}
 use Rattle.std.proofs.lemmas.Bool.Decides.{nat_tests}
@@ -10,13 +9,13 @@ use Rattle.zb_types.specs.declared.ids.LogId.{LogId}
 use Rattle.zb_types.specs.declared.ids.Ptr.{Ptr}
 use Rattle.zb_types.specs.declared.tables.HeldUse.{HeldUse}
 use Rattle.zb_types.specs.Keyed.{look}
-use Rattle.zb_types.proofs.KeyedLists.{IsRising, KeysAbove, look-below, IsRising-from_ordered}
+use Rattle.zb_types.proofs.KeyedLists.{IsRising, look-below, IsRising-from_ordered}
 use Rattle.zb_delta.specs.declared.delta.Body.{Body}
 use Rattle.zb_tables.specs.Tables.{FileState, Tables, EachFile, LiesIn, PointsIn, is_of, held_at, end_at, end_of}
-use Rattle.zb_tables.specs.Fold.{Files, is_before}
+use Rattle.zb_tables.specs.Fold.{Files}
 use Rattle.zb_tables.specs.Taking.{Sizes}
-use Rattle.zb_tables.specs.Checkpoint.{IsFile, AreTables, held_cmp}
-use Rattle.zb_tables.specs.Finding.{is_into, live_in, live}
+use Rattle.zb_tables.specs.Checkpoint.{IsFile, AreTables}
+use Rattle.zb_tables.specs.Finding.{is_into, live_in}
 use Rattle.zb_tables.proofs.Ordered.{Rising, AllAfter, rising_from}
 use Rattle.zb_usage.specs.Uses.{bytes_in, named_bytes, stripe_use, all_live}
 use Rattle.zb_usage.specs.Seen.{if_held}

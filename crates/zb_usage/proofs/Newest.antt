@@ -1,5 +1,5 @@
 -- The greatest number of a first entry.
-use Rattle.std.proofs.Common.{ℕ, zero, suc, ◌<◌, ◌≤◌, max, List, [], ◌∷◌, length, get_or, arith}
+use Rattle.std.proofs.Common.{ℕ, zero, suc, ◌<◌, ◌≤◌, List, [], ◌∷◌, length, get_or, arith}
 use Rattle.zb_usage.specs.declared.stripe_use.StripeUse.{StripeUse}
 use Rattle.zb_usage.specs.Choosing.{newest}
 

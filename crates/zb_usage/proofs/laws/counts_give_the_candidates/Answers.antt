@@ -1,6 +1,5 @@
-use Rattle.std.proofs.Common.{◌≡◌, ℕ, ◌%◌, ◌^◌, ◌<◌, List, refl, sym, ap, ◌∙◌, arith}
+use Rattle.std.proofs.Common.{◌≡◌, ℕ, ◌%◌, ◌^◌, ◌<◌, ap, ◌∙◌, arith}
 use Rattle.zb_types.specs.declared.ids.LogId.{LogId}
-use Rattle.zb_types.specs.declared.tables.HeldUse.{HeldUse}
 use Rattle.zb_usage.specs.Uses.{candidates_of, closed, stripe_use}
 use Rattle.zb_tables.specs.Finding.{status}
 use Rattle.zb_usage.specs.Seen.{counted}

@@ -1,0 +1,12 @@
+pub mod Places
+pub mod Wishes
+pub mod Rows
+pub mod Alike
+pub mod Serves
+pub mod Fetches
+pub mod Stores
+pub mod Lookups
+pub mod Commits
+pub mod Steps
+pub mod Firsts
+pub mod Lists

@@ -3,6 +3,10 @@
 //! and no text.
 #![tactic(auto)]
 
+mod keeping;
 mod ledger;
 
+pub use keeping::{
+    ledger_history_is_legal, ledger_keeps_lines, ledger_keeps_lookups, ledger_keeps_what_is_given,
+};
 pub use ledger::Ledger;

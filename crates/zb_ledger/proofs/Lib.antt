@@ -1,0 +1,5 @@
+pub mod Keys
+pub mod Small
+pub mod Giving
+pub mod Looking
+pub mod Telling

@@ -1,0 +1,4 @@
+-- Lemmas on the end of the nodes' steps.
+pub mod Totals
+pub mod Fewer
+pub mod Busy

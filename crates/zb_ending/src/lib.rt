@@ -1,0 +1,9 @@
+//! That the nodes of a system come to an end: each step leaves the clients fewer steps to take, all together, and a client
+//! that holds the file manager has work to do, which nobody blocks. Definitions and their laws alone.
+#![tactic(auto)]
+
+mod ending;
+mod holding;
+
+pub use ending::steps_come_to_an_end;
+pub use holding::holders_work;

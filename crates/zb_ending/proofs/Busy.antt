@@ -1,11 +1,9 @@
 -- What a step does to a client that is at work, and to the one that holds the file manager.
-use Rattle.std.proofs.Common.{◌≡◌, ◌≢◌, ℕ, ◌+◌, ◌<◌, true, false, Bool, List, [], ◌∷◌, length, Option, Some, None, refl, sym, ap, ◌∙◌, subst, arith, inl, inr}
+use Rattle.std.proofs.Common.{◌≡◌, ◌≢◌, ℕ, zero, suc, ◌+◌, ◌<◌, true, false, Bool, List, [], ◌∷◌, length, Option, Some, None, refl, sym, ap, ◌∙◌, subst, arith, inl, inr}
 use Rattle.std.specs.Prelude.{◌⊎◌, ◌==◌, if◌then◌else◌, is_some, slice_get, slice_set, IfSome}
 use Rattle.std.proofs.lemmas.Bool.{cases_eq, eq-eqb}
 use Rattle.std.proofs.lemmas.Option.{none-some, same_Some}
-use Rattle.zb_types.specs.declared.lines.Kind.{Kind}
 use Rattle.zb_types.specs.declared.lines.Kind.TheVariants as kind
-use Rattle.zb_manager.specs.Managers.{SeenManager}
 use Rattle.zb_turns.specs.Turns.{other_holder}
 use Rattle.zb_basis.specs.declared.calls.Numbered.{Numbered}
 use Rattle.zb_work.specs.declared.work.Aim.{Aim}
@@ -88,12 +86,14 @@ other_is own (Some holder) h e = by (holder == own) refl e where
 
 -- ---- one client is another
 
-module _ (old new : SeenNodes) (i : ℕ) (c d : SeenClient) (is : IsClient old i c) (clients_are : new.clients ≡ slice_set old.clients i d) where
-  set_here : (cs : List SeenClient) (k : ℕ) → slice_get cs k ≡ Some c → slice_get (slice_set cs k d) k ≡ Some d
-  set_here cs k e = ?
+set_here : (c d : SeenClient) (cs : List SeenClient) (k : ℕ) → slice_get cs k ≡ Some c → slice_get (slice_set cs k d) k ≡ Some d
+set_here c d [] k e = absurd (none-some c e)
+set_here c d (x ∷ cs) zero e = refl
+set_here c d (x ∷ cs) (suc k) e = set_here c d cs k e
 
+module _ (old new : SeenNodes) (i : ℕ) (c d : SeenClient) (is : IsClient old i c) (clients_are : new.clients ≡ slice_set old.clients i d) where
   here : IsClient new i d
-  here = ap (λ (cs : List SeenClient). slice_get cs i) clients_are ∙ set_here old.clients i is
+  here = ap (λ (cs : List SeenClient). slice_get cs i) clients_are ∙ set_here c d old.clients i is
 
   -- one that stays at work, and holds
   pub works_here : IsAtWork d → (h : ℕ) → h ≡ i + 1 → ClientWorks new h

@@ -1,5 +1,5 @@
 -- A step of a client leaves all clients fewer steps.
-use Rattle.std.proofs.Common.{◌≡◌, ℕ, ◌+◌, ◌*◌, ◌<◌, ◌≤◌, true, false, Bool, List, length, Option, Some, None, refl, sym, ap, ◌∙◌, subst, arith, inl, inr}
+use Rattle.std.proofs.Common.{◌≡◌, ℕ, ◌+◌, ◌*◌, ◌<◌, true, false, Bool, List, length, Option, Some, None, refl, sym, ap, ◌∙◌, subst, arith, inl, inr}
 use Rattle.std.specs.Prelude.{◌⊎◌, if◌then◌else◌, slice_set}
 use Rattle.std.specs.List.{sum_by}
 use Rattle.zb_types.specs.Tree.{Tree}
@@ -13,7 +13,7 @@ use Rattle.zb_stripe.specs.Reading.{Reading, asked}
 use Rattle.zb_given.specs.Given.{Given}
 use Rattle.zb_batch.specs.declared.batch.Op.{Op}
 use Rattle.zb_batch.specs.declared.batch.Op.TheVariants.{Name, Write, Cut, Sync, Clean}
-use Rattle.zb_tables.specs.Fold.{Shelf, shelf_of}
+use Rattle.zb_tables.specs.Fold.{shelf_of}
 use Rattle.zb_tables.specs.Leaving.{IsOfUpdate}
 use Rattle.zb_tables.specs.Tables.{Tables}
 use Rattle.zb_tables.specs.Taking.{Sizes}
@@ -53,7 +53,7 @@ use Rattle.zb_progress.proofs.Stepping.{call-falls, commit-falls, done-falls, fu
 use Rattle.zb_system.specs.Nodes.{IsClient, SeenNodes, readied}
 use Rattle.zb_system.specs.Looking.{tree_for}
 use Rattle.zb_system.specs.Sound.{AreSound}
-use Rattle.zb_system.specs.Steps.{AsksCommit, Commits, Does, DoesStep, Fetches, HasStepped, IsBehindNow, IsReadied, LooksUp, Stores, TakesCall}
+use Rattle.zb_system.specs.Steps.{Commits, Does, DoesStep, Fetches, HasStepped, IsBehindNow, IsReadied, LooksUp, Stores, TakesCall}
 use Rattle.zb_system.proofs.Asking.{fetch_from}
 use Rattle.zb_system.proofs.Quiet.{World, known_ready, sound_ready}
 use Rattle.zb_system.proofs.Storing.{answer_is, head_is}

@@ -2,3 +2,4 @@
 pub mod Totals
 pub mod Fewer
 pub mod Busy
+pub mod Keeping

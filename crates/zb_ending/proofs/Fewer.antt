@@ -58,15 +58,8 @@ use Rattle.zb_system.proofs.Asking.{fetch_from}
 use Rattle.zb_system.proofs.Quiet.{World, known_ready, sound_ready}
 use Rattle.zb_system.proofs.Storing.{answer_is, head_is}
 use Rattle.zb_ending.specs.Left.{work_left}
-use Rattle.zb_ending.proofs.Totals.{set_more, set_same}
-
--- an update's operation has a reply
-is_replied : (op : Op) → IsOfUpdate op → IsReplied op
-is_replied (Name call what) update = tt
-is_replied (Write call fid version offset len deltas) update = tt
-is_replied (Cut call fid version size deltas) update = tt
-is_replied (Sync call) update = tt
-is_replied (Clean deltas) update = absurd update
+use Rattle.zb_ending.proofs.Replied.{replies_count}
+use Rattle.zb_ending.proofs.Totals.{set_more, set_swap}
 
 -- what the clients come to with these sizes and tables
 abbrev Total : Sizes → Tables → List SeenClient → ℕ
@@ -84,9 +77,8 @@ module _ (old new : SeenNodes) (i : ℕ) (c d : SeenClient) (is : IsClient old i
   pub fewer : new.manager.tables ≡ old.manager.tables → steps_left Z old.manager.tables d < steps_left Z old.manager.tables c → work_left new < work_left old
   fewer tables lt =
       let now = now_is old.manager.tables tables in
-      let all = set_more (λ x. steps_left Z old.manager.tables x) (λ x. steps_left Z old.manager.tables x) 0 (λ x. omega arith) old.clients i c d is in
-      let none : length old.clients * 0 ≡ 0 = grind arith in
-      omega (arith, now, all, none, lt)
+      let all = set_swap (λ x. steps_left Z old.manager.tables x) old.clients i c d is in
+      omega (arith, now, all, lt)
 
   pub far_fewer : length old.clients ≡ Z.clients → steps_left Z new.manager.tables d + Z.clients * steps_from_lookup Z < steps_left Z old.manager.tables c → work_left new < work_left old
   far_fewer count lt =
@@ -185,17 +177,11 @@ module _ {given : Given} {lines : List Outcome} {old : SeenNodes} (s : AreSound 
           (refused-falls W.z W.tables C basis sealed (ap step_of work ∙ at)
           (refused-stale W Seen C S basis sealed (ap step_of work ∙ at) old.servers.slots s.stands (known_ready c known) may behind.fault behind.refusal).1 behind.fault))
 
-      replies_count : (done : Commits old new C sealed heard) → length done.replies ≡ length sealed.batch.ops
-      replies_count done =
-          let leaves = commit_sound W Seen C S basis sealed (ap step_of work ∙ at) old.servers.slots s.stands (known_ready c known) done.right in
-          let count = all_replied W.z.block sealed.batch.ops (shelf_of W.tables) done.committed.after (each-weaker IsOfUpdate IsReplied sealed.batch.ops is_replied leaves.3.updates) done.committed.done in
-          ap (λ (rs : List Reply). length rs) done.committed.replies_are ∙ omega (arith, count)
-
       done_less : Commits old new C sealed heard → work_left new < work_left old
       done_less done =
           far_fewer old new i c heard.client is clients_are done.committed.sizes s.count
           (subst (λ (h : Heard). steps_left W.z new.manager.tables h.client + W.z.clients * steps_from_lookup W.z < steps_left W.z W.tables C) (sym done.heard_is)
-          (commit-falls W Seen C (known_ready c known) S basis sealed (ap step_of work ∙ at) done.replies new.manager.tables (replies_count done)))
+          (commit-falls W Seen C (known_ready c known) S basis sealed (ap step_of work ∙ at) done.replies new.manager.tables (replies_count s i c is known task work basis sealed at new heard done)))
 
       commit_less : Commits old new C sealed heard ⊎ IsBehindNow old new C sealed heard → work_left new < work_left old
       commit_less (inl done) = done_less done
@@ -223,5 +209,9 @@ steps_less new i told s may h = does_less s may new i h.client h.is h.known h.he
 -- memory changes nothing
 pub ready_same : (old new : SeenNodes) (i : ℕ) → IsReadied old new i → work_left new ≡ work_left old
 ready_same old new i r =
-    now_is old new i r.client (record r.client { is_ready = r.ready }) r.is r.clients r.manager.sizes old.manager.tables r.manager.tables
-    ∙ set_same (λ x. steps_left old.manager.sizes old.manager.tables x) old.clients i r.client (record r.client { is_ready = r.ready }) r.is refl
+    let z = old.manager.sizes in
+    let t = old.manager.tables in
+    let d : SeenClient = record r.client { is_ready = r.ready } in
+    let now = now_is old new i r.client d r.is r.clients r.manager.sizes t r.manager.tables in
+    let all = set_swap (λ x. steps_left z t x) old.clients i r.client d r.is in
+    omega (arith, now, all)

@@ -24,11 +24,11 @@ module _ {A : Type 0} (f g : A → ℕ) (more : ℕ) (most : (x : A) → g x ≤
       let long : length (y ∷ xs) * more ≡ more + length xs * more = grind arith in
       omega (arith, long, most y, set_more xs i x after is, sum_by-cons f y xs, sum_by-cons g y (slice_set xs i after))
 
--- one is another that counts as much
-pub set_same : {A : Type 0} (f : A → ℕ) (xs : List A) (i : ℕ) (x after : A) → slice_get xs i ≡ Some x → f after ≡ f x → sum_by f (slice_set xs i after) ≡ sum_by f xs
-set_same f [] i x after is same = absurd (none-some x is)
-set_same f (y ∷ xs) zero x after is same =
+-- one is another, and the others are as they were
+pub set_swap : {A : Type 0} (f : A → ℕ) (xs : List A) (i : ℕ) (x after : A) → slice_get xs i ≡ Some x → sum_by f (slice_set xs i after) + f x ≡ sum_by f xs + f after
+set_swap f [] i x after is = absurd (none-some x is)
+set_swap f (y ∷ xs) zero x after is =
     let first : f y ≡ f x = ap f (same_Some y x is) in
-    omega (arith, same, first, sum_by-cons f y xs, sum_by-cons f after xs)
-set_same f (y ∷ xs) (suc i) x after is same =
-    omega (arith, set_same f xs i x after is same, sum_by-cons f y xs, sum_by-cons f y (slice_set xs i after))
+    omega (arith, first, sum_by-cons f y xs, sum_by-cons f after xs)
+set_swap f (y ∷ xs) (suc i) x after is =
+    omega (arith, set_swap f xs i x after is, sum_by-cons f y xs, sum_by-cons f y (slice_set xs i after))

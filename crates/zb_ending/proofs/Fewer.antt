@@ -3,7 +3,6 @@ use Rattle.std.proofs.Common.{◌≡◌, ℕ, ◌+◌, ◌*◌, ◌<◌, true, f
 use Rattle.std.specs.Prelude.{◌⊎◌, if◌then◌else◌, slice_set}
 use Rattle.std.specs.List.{sum_by}
 use Rattle.zb_types.specs.Tree.{Tree}
-use Rattle.zb_types.specs.declared.calls.Reply.{Reply}
 use Rattle.zb_types.specs.declared.ids.Ptr.{Ptr}
 use Rattle.zb_types.specs.declared.lines.Outcome.{Outcome}
 use Rattle.zb_types.specs.declared.requests.Response.{Response}
@@ -11,20 +10,14 @@ use Rattle.zb_types.specs.declared.requests.Response.TheVariants as told
 use Rattle.zb_types.specs.declared.requests.StoreFault.TheVariants as fault
 use Rattle.zb_stripe.specs.Reading.{Reading, asked}
 use Rattle.zb_given.specs.Given.{Given}
-use Rattle.zb_batch.specs.declared.batch.Op.{Op}
-use Rattle.zb_batch.specs.declared.batch.Op.TheVariants.{Name, Write, Cut, Sync, Clean}
-use Rattle.zb_tables.specs.Fold.{shelf_of}
-use Rattle.zb_tables.specs.Leaving.{IsOfUpdate}
 use Rattle.zb_tables.specs.Tables.{Tables}
 use Rattle.zb_tables.specs.Taking.{Sizes}
 use Rattle.zb_manager.specs.Managers.{SeenManager}
 use Rattle.zb_manager.specs.Seen.{held_by}
-use Rattle.zb_turns.specs.Turns.{IsReplied, other_holder}
-use Rattle.zb_turns.proofs.Replies.{all_replied}
+use Rattle.zb_turns.specs.Turns.{other_holder}
 use Rattle.zb_servers.specs.Serving.{is_refused}
 use Rattle.zb_servers.specs.Standing.{has}
 use Rattle.zb_servers_laws.specs.Answered.{lacks_slot}
-use Rattle.zb_basis.proofs.Each.{each-weaker}
 use Rattle.zb_basis.specs.declared.basis.Basis.{Basis}
 use Rattle.zb_basis.specs.declared.basis.Formed.{Formed}
 use Rattle.zb_basis.specs.declared.basis.Sealed.{Sealed}
@@ -42,7 +35,6 @@ use Rattle.zb_client.specs.Wishing.{lookup_of}
 use Rattle.zb_client_laws.specs.Around.{Around}
 use Rattle.zb_client_laws.specs.Known.{IsKnown}
 use Rattle.zb_client_laws.specs.Sound.{ClientIsSound}
-use Rattle.zb_client_laws.proofs.Delivered.{commit_sound}
 use Rattle.zb_progress.specs.Fresh.{MayRise}
 use Rattle.zb_progress.specs.Left.{steps_from_lookup, steps_left}
 use Rattle.zb_progress.proofs.Arriving.{fetch-falls}

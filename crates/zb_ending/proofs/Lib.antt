@@ -4,3 +4,4 @@ pub mod Replied
 pub mod Fewer
 pub mod Busy
 pub mod Keeping
+pub mod Ahead

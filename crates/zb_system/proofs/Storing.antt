@@ -311,7 +311,7 @@ module _ {given : Given} {lines : List Outcome} {old : SeenNodes} (s : AreSound 
           (quiet.lookups lines (s.reads i))
           (inr tt)
 
-    answer_is : f.response ≡ (if lacks_slot (has old.servers A.0) A.1 then told.Refused (fault.NoSlot (has old.servers A.0).free) else told.Done)
+    pub answer_is : f.response ≡ (if lacks_slot (has old.servers A.0) A.1 then told.Refused (fault.NoSlot (has old.servers A.0).free) else told.Done)
     answer_is = write_answer (has old.servers A.0) G A.1 f.response (is_write A First) (has_place A First) (fence_low A First) f.served.answer
 
     pub store_stays : StaysSound s new i (lines_in heard.told)

@@ -4,7 +4,7 @@ use zb_devices::MemOutside;
 use zb_entries::Entry;
 use zb_journal::{EntryList, Journal, JournalFault, entries};
 use zb_outside::{Bay, Fused};
-use zb_types::{Failed, LogId, Piece, PieceList};
+use zb_types::{Failed, LogId, Mem, Piece, PieceList};
 
 // A settled platter 0 with room for the journal, all zeros, whose restart leaves what this choice says.
 fn platter(alloc: Global, choice: u8) -> Result<Fused<MemOutside>, Failed> {
@@ -24,9 +24,9 @@ fn retire(stripe: u64) -> Entry {
     }
 }
 
-// The stripes that the entries give up, which are all of the journal.
-fn stripes<const N: usize>(list: &EntryList) -> [u64; N] {
-    let mut found = [0; N];
+// The stripes that the entries give up, which are all of the journal; 0 behind them.
+fn stripes(list: &EntryList) -> [u64; 2] {
+    let mut found = [0; 2];
     for (stripe, entry) in found.iter_mut().zip(list.slice()) {
         if let Entry::Retire { stripe: one, .. } = entry {
             *stripe = *one;
@@ -35,42 +35,54 @@ fn stripes<const N: usize>(list: &EntryList) -> [u64; N] {
     found
 }
 
+// A journal without entries.
+const FIRST: Journal = Journal {
+    place: 0,
+    number: 1,
+};
+
 const CREATE: [u8; 49] = [
     1, 2, 0, 1, 0, 0, 0, 1, 0, 0, 0, 0, 0, 0, 0, 1, 0, 0, 0, 0, 0, 0, 0, 1, 0, 0, 0, 0, 0, 0, 0, 3,
     0, 0, 0, 0, 0, 0, 0, 0, 0, 0, 0, 0, 0, 0, 0, 45, 0,
 ];
 
-#[test]
-fn a_commit_has_its_bytes(rt: HostRuntime) -> Result<(), Fail> {
-    let alloc = rt.alloc();
-    let mut bay = platter(alloc, 0).expect(&rt, "memory");
+// The commit of a batch with one piece.
+fn commit(alloc: Global) -> Mem<Entry> {
+    let piece = Piece {
+        stripe: 0,
+        offset: 0,
+        len: 45,
+    };
+    Ok(Entry::Commit {
+        log: LogId(1),
+        batch: 1,
+        generation: 1,
+        pieces: PieceList::from_slice(alloc, &[piece])?,
+    })
+}
+
+// Where a journal goes on once it has that commit as its entry 3, from place 64 on, and the bytes there.
+fn committed(alloc: Global) -> Result<(Journal, [u8; 49]), JournalFault> {
+    let mut bay = platter(alloc, 0)?;
     let mut journal = Journal {
         place: 64,
         number: 3,
     };
-    let mut pieces = PieceList::new(alloc)?;
-    pieces.push(Piece {
-        stripe: 0,
-        offset: 0,
-        len: 45,
-    })?;
-    let commit = Entry::Commit {
-        log: LogId(1),
-        batch: 1,
-        generation: 1,
-        pieces,
-    };
-    assert_eq!(rt; journal.append(alloc, &mut bay, &commit), Ok(()));
-    assert_eq!(rt;
-        journal,
-        Journal {
-            place: 112,
-            number: 4
-        }
-    );
+    journal.append(alloc, &mut bay, &commit(alloc)?)?;
     let mut bytes = [9; 49];
-    assert_eq!(rt; bay.read_at(0, 4_160, &mut bytes), Ok(()));
-    assert_eq!(rt; bytes, CREATE);
+    bay.read_at(0, 4_160, &mut bytes)?;
+    Ok((journal, bytes))
+}
+
+#[test]
+fn a_commit_has_its_bytes(rt: HostRuntime) -> Result<(), Fail> {
+    let journal = Journal {
+        place: 112,
+        number: 4,
+    };
+    let (found, bytes) = committed(rt.alloc())?;
+    assert!(rt; found == journal);
+    assert!(rt; bytes == CREATE);
     Ok(())
 }
 
@@ -94,49 +106,69 @@ const STOPS: [(u8, bool, u8, bool); 15] = [
     (7, true, 2, false),
 ];
 
-// What is read from number 2 on, after an append with that number has stopped so.
+// A journal that is to have its second entry; before it one was cut away, or none was there.
+fn begun(alloc: Global, bay: &mut Fused<MemOutside>, cut: bool) -> Result<Journal, JournalFault> {
+    let mut journal = FIRST;
+    if cut {
+        journal.append(alloc, bay, &retire(5))?;
+        journal.cut();
+    }
+    journal.number = 2;
+    Ok(journal)
+}
+
+// The append of the second entry has stopped, at the write behind so many that pass.
+fn stop(
+    alloc: Global,
+    bay: &mut Fused<MemOutside>,
+    cut: bool,
+    passed: u8,
+) -> Result<(), JournalFault> {
+    let mut journal = begun(alloc, bay, cut)?;
+    bay.arm(0, u64::from(passed) + 1);
+    match journal.append(alloc, bay, &retire(6)) {
+        Err(JournalFault::Stopped) => Ok(()),
+        _ => Err(JournalFault::Worn),
+    }
+}
+
+// The platter, restarted after such a stop.
 fn stopped(
     alloc: Global,
     choice: u8,
     cut: bool,
     passed: u8,
-) -> Result<(Fused<MemOutside>, Journal, EntryList), JournalFault> {
+) -> Result<Fused<MemOutside>, JournalFault> {
     let mut bay = platter(alloc, choice)?;
-    let mut journal = Journal {
-        place: 0,
-        number: 1,
-    };
-    if cut {
-        journal.append(alloc, &mut bay, &retire(5))?;
-        journal.cut();
-    }
-    journal.number = 2;
-    bay.arm(0, u64::from(passed) + 1);
-    let Err(JournalFault::Stopped) = journal.append(alloc, &mut bay, &retire(6)) else {
-        return Err(JournalFault::Worn);
-    };
+    stop(alloc, &mut bay, cut, passed)?;
     bay.disarm(0);
     bay.restart(0)?;
-    let (found, list) = entries(alloc, &mut bay, 2)?;
-    Ok((bay, found, list))
+    Ok(bay)
+}
+
+// The stripes of the entries from number 2 on, before and after one more is added; no more than these two are told.
+fn found(alloc: Global, bay: &mut Fused<MemOutside>) -> Result<[[u64; 2]; 2], JournalFault> {
+    let (mut journal, list) = entries(alloc, bay, 2)?;
+    journal.append(alloc, bay, &retire(7))?;
+    let (again, more) = entries(alloc, bay, 2)?;
+    if again != journal {
+        return Err(JournalFault::Worn);
+    }
+    Ok([stripes(&list), stripes(&more)])
 }
 
 #[test]
-fn a_stop_leaves_the_entries_before_or_with_the_new_one(rt: HostRuntime) {
-    let alloc = rt.alloc();
+fn a_stop_leaves_the_entries_before_or_with_the_new_one(rt: HostRuntime) -> Result<(), Fail> {
     for (choice, cut, passed, added) in STOPS {
-        let (mut bay, mut journal, list) = stopped(alloc, choice, cut, passed).expect(
-            &rt,
-            "a journal",
-        );
-        let wanted = if added { [6, 0] } else { [0, 0] };
-        assert_eq!(rt; stripes(&list), wanted);
-        assert_eq!(rt; journal.append(alloc, &mut bay, &retire(7)), Ok(()));
-        let (again, list) = entries(alloc, &mut bay, 2).expect(&rt, "a journal");
-        assert_eq!(rt; again, journal);
-        let wanted = if added { [6, 7] } else { [7, 0] };
-        assert_eq!(rt; stripes(&list), wanted);
+        let mut bay = stopped(rt.alloc(), choice, cut, passed)?;
+        let wanted = if added {
+            [[6, 0], [6, 7]]
+        } else {
+            [[0, 0], [7, 0]]
+        };
+        assert!(rt; found(rt.alloc(), &mut bay)? == wanted);
     }
+    Ok(())
 }
 
 // A byte of the second of two entries, where it stands, and whether the entry is bad with it.
@@ -157,12 +189,10 @@ const BYTES: [(u64, u8, bool); 11] = [
 // What is read of two entries, of which the second has this byte.
 fn with_byte(alloc: Global, at: u64, byte: u8) -> Result<(Journal, EntryList), JournalFault> {
     let mut bay = platter(alloc, 0)?;
-    let mut journal = Journal {
-        place: 0,
-        number: 1,
-    };
-    journal.append(alloc, &mut bay, &retire(5))?;
-    journal.append(alloc, &mut bay, &retire(6))?;
+    let mut journal = FIRST;
+    for stripe in [5, 6] {
+        journal.append(alloc, &mut bay, &retire(stripe))?;
+    }
     if at < 32 {
         bay.write_at(0, 4_128 + at, &[byte])?;
     }
@@ -172,9 +202,13 @@ fn with_byte(alloc: Global, at: u64, byte: u8) -> Result<(Journal, EntryList), J
 #[test]
 fn a_bad_entry_is_told_by_its_place(rt: HostRuntime) {
     for (at, byte, bad) in BYTES {
-        let found = with_byte(rt.alloc(), at, byte);
-        assert_eq!(rt; matches!(found, Err(JournalFault::Bad { place: 32 })), bad);
-        assert_eq!(rt; found.is_ok(), !bad);
+        let fault = with_byte(rt.alloc(), at, byte).err();
+        let wanted = if bad {
+            Some(JournalFault::Bad { place: 32 })
+        } else {
+            None
+        };
+        assert!(rt; fault == wanted);
     }
 }
 
@@ -194,49 +228,46 @@ fn filled(
     Err(JournalFault::Worn)
 }
 
-// Fills a journal that begins with this number, and cuts it, twice.
-fn filled_twice(alloc: Global, number: u64) -> Result<(u32, u32, Journal), JournalFault> {
+// Fills a journal, and cuts it, twice; how many entries there were, and where it goes on.
+fn filled_twice(alloc: Global) -> Result<([u32; 2], Journal), JournalFault> {
     let mut bay = platter(alloc, 0)?;
-    let mut journal = Journal { place: 0, number };
-    let first = filled(alloc, &mut bay, &mut journal)?;
-    journal.cut();
-    let second = filled(alloc, &mut bay, &mut journal)?;
-    journal.cut();
+    let mut journal = FIRST;
+    let mut counts = [0; 2];
+    for count in counts.iter_mut() {
+        *count = filled(alloc, &mut bay, &mut journal)?;
+        journal.cut();
+    }
     let (found, _) = entries(alloc, &mut bay, 4_095)?;
     if found != journal {
         return Err(JournalFault::Worn);
     }
-    Ok((first, second, journal))
+    Ok((counts, journal))
 }
 
 #[test]
-fn a_journal_fills_and_is_cut_twice(rt: HostRuntime) {
-    let filled = filled_twice(rt.alloc(), 1);
-    assert_eq!(rt;
-        filled,
-        Ok((
-            2_047,
-            2_047,
-            Journal {
-                place: 0,
-                number: 4_095
-            }
-        ))
-    );
+fn a_journal_fills_and_is_cut_twice(rt: HostRuntime) -> Result<(), Fail> {
+    let journal = Journal {
+        place: 0,
+        number: 4_095,
+    };
+    assert!(rt; filled_twice(rt.alloc())? == ([2_047, 2_047], journal));
+    Ok(())
 }
 
-#[test]
-fn the_last_number_is_given_to_no_entry(rt: HostRuntime) {
-    let alloc = rt.alloc();
-    let mut bay = platter(alloc, 0).expect(&rt, "memory");
+// The last entry that has a number, and why none comes behind it.
+fn worn(alloc: Global) -> Result<Option<JournalFault>, JournalFault> {
+    let mut bay = platter(alloc, 0)?;
     let mut journal = Journal {
         place: 65_503,
         number: 281_474_976_710_655,
     };
-    assert_eq!(rt; journal.append(alloc, &mut bay, &retire(5)), Ok(()));
+    journal.append(alloc, &mut bay, &retire(5))?;
     journal.cut();
-    assert_eq!(rt;
-        journal.append(alloc, &mut bay, &retire(5)),
-        Err(JournalFault::Worn)
-    );
+    Ok(journal.append(alloc, &mut bay, &retire(5)).err())
+}
+
+#[test]
+fn the_last_number_is_given_to_no_entry(rt: HostRuntime) -> Result<(), Fail> {
+    assert!(rt; worn(rt.alloc())? == Some(JournalFault::Worn));
+    Ok(())
 }

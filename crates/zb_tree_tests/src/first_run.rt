@@ -4,7 +4,7 @@ use std::test::Fail;
 use zb_batch::{Batch, Op, OpList};
 use zb_delta::{Body, Delta, DeltaList};
 use zb_manager::Manager;
-use zb_types::{Call, Fid, LogId, Piece, Ptr, Reply};
+use zb_types::{Call, Fid, LogId, Mem, Piece, Ptr, Reply};
 
 /// Where the five bytes of the first write stand.
 const HELLO: Ptr = Ptr {
@@ -23,7 +23,7 @@ fn piece(offset: u32, len: u32) -> Piece {
 }
 
 /// Batch 1, which creates a file.
-fn creation(alloc: Global) -> Result<Batch, Fail> {
+fn creation(alloc: Global) -> Mem<Batch> {
     let mut ops = OpList::new(alloc)?;
     ops.push(Op::Name {
         call: 1,
@@ -36,25 +36,30 @@ fn creation(alloc: Global) -> Result<Batch, Fail> {
     })
 }
 
-/// Batch 2, which writes five bytes to the file, made at this version of it, and syncs.
-fn write_and_sync(alloc: Global, version: u64) -> Result<Batch, Fail> {
+/// A write of five bytes to the file, made at its first version.
+fn write(alloc: Global) -> Mem<Op> {
     let mut deltas = DeltaList::new(alloc)?;
     deltas.push(Delta::Update(Body {
         fid: Fid(1),
-        version,
+        version: 1,
         block: 0,
         was: None,
         now: HELLO,
     }))?;
-    let mut ops = OpList::new(alloc)?;
-    ops.push(Op::Write {
+    Ok(Op::Write {
         call: 2,
         fid: Fid(1),
-        version,
+        version: 1,
         offset: 0,
         len: 5,
         deltas,
-    })?;
+    })
+}
+
+/// Batch 2, which writes, and syncs.
+fn write_and_sync(alloc: Global) -> Mem<Batch> {
+    let mut ops = OpList::new(alloc)?;
+    ops.push(write(alloc)?)?;
     ops.push(Op::Sync { call: 3 })?;
     Ok(Batch {
         log: LogId(1),
@@ -63,38 +68,45 @@ fn write_and_sync(alloc: Global, version: u64) -> Result<Batch, Fail> {
     })
 }
 
-/// The file that the last batch made.
-fn made(manager: &Manager) -> Option<Fid> {
-    match manager.last(LogId(1)) {
-        Some((1, [Reply::Made(fid)])) => Some(*fid),
-        _ => None,
-    }
+/// Whether the last batch made file 1.
+fn has_made(manager: &Manager) -> bool {
+    matches!(manager.last(LogId(1)), Some((1, [Reply::Made(Fid(1))])))
 }
 
 /// The file manager after the first run's two batches.
 pub(crate) fn after_first_run(alloc: Global) -> Result<Manager, Fail> {
     let mut manager = new_manager(alloc)?;
-    commit(alloc, &mut manager, &creation(alloc)?, &[piece(0, 45)])?;
-    if made(&manager) != Some(Fid(1)) {
-        return Err(Fail::new("the create"));
+    let created = commit(alloc, &mut manager, &creation(alloc)?, piece(0, 45))?;
+    let written = commit(alloc, &mut manager, &write_and_sync(alloc)?, piece(45, 137))?;
+    if created && written {
+        return Ok(manager);
     }
-    let write = write_and_sync(alloc, 1)?;
-    commit(alloc, &mut manager, &write, &[piece(45, 137)])?;
-    Ok(manager)
+    Err(Fail::new("a batch"))
+}
+
+/// Whether the last batch was the second, with these replies.
+fn has_written(manager: &Manager) -> bool {
+    matches!(
+        manager.last(LogId(1)),
+        Some((2, [Reply::Done, Reply::Done]))
+    )
+}
+
+/// Whether the file has the blocks of the first write, and is at the version behind it.
+fn has_hello(alloc: Global, manager: &Manager) -> Mem<bool> {
+    let found = manager.lookup(alloc, Fid(1), 0, 9)?;
+    let is_long = found.version == 2 && found.length == 5;
+    Ok(is_long && found.blocks.slice() == [(0, HELLO)].as_slice())
 }
 
 #[test]
 fn the_first_runs_batches_are_committed(rt: HostRuntime) -> Result<(), Fail> {
     let alloc = rt.alloc();
-    let manager = after_first_run(alloc)?;
-    let found = manager.lookup(alloc, Fid(1), 0, 9)?;
-    assert_eq!(rt; (found.version, found.length), (2, 5));
-    assert_eq!(rt; found.blocks.slice(), [(0, HELLO)].as_slice());
-    assert!(rt;
-        matches!(
-            manager.last(LogId(1)),
-            Some((2, [Reply::Done, Reply::Done]))
-        )
-    );
+    let mut manager = new_manager(alloc)?;
+    assert!(rt; commit(alloc, &mut manager, &creation(alloc)?, piece(0, 45))?);
+    assert!(rt; has_made(&manager));
+    assert!(rt; commit(alloc, &mut manager, &write_and_sync(alloc)?, piece(45, 137))?);
+    assert!(rt; has_written(&manager));
+    assert!(rt; has_hello(alloc, &manager)?);
     Ok(())
 }

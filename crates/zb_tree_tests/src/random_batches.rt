@@ -11,11 +11,14 @@ use zb_history::Tree;
 use zb_manager::{Manager, ReplyList};
 use zb_names::Entry;
 use zb_types::{
-    ByteList, Call, Fid, Found, LogId, Mem, NoMemory, Path, Piece, Ptr, Reply, bytes_from,
-    bytes_resized, bytes_written,
+    ByteList, Call, Fid, Found, LogId, Mem, Path, Piece, Ptr, Reply, bytes_from, bytes_resized,
+    bytes_written,
 };
 
 const BLOCK: u32 = 64;
+
+/// The paths that the calls name.
+const PATHS: [&[u8]; 4] = [b"/a", b"/b", b"/c", b"/c/d"];
 
 /// How many files the calls name.
 const FILES: u32 = 6;
@@ -59,7 +62,7 @@ struct Making {
     replies: ReplyList,
 }
 
-fn new_bench(alloc: Global) -> Result<Bench, Fail> {
+fn new_bench(alloc: Global) -> Mem<Bench> {
     Ok(Bench {
         manager: new_manager(alloc)?,
         tree: Tree::new(alloc)?,
@@ -79,51 +82,36 @@ fn new_making(alloc: Global, number: u64) -> Mem<Making> {
     })
 }
 
-fn any_path(alloc: Global, dice: &mut Dice) -> Result<Path, Fail> {
-    path(
-        alloc,
-        match dice.roll(4) {
-            0 => b"/a",
-            1 => b"/b",
-            2 => b"/c",
-            _ => b"/c/d",
-        },
-    )
+fn any_path(alloc: Global, dice: &mut Dice) -> Mem<Path> {
+    path(alloc, PATHS[dice.roll(4) as usize])
 }
 
-fn any_name_call(alloc: Global, dice: &mut Dice) -> Result<Call, Fail> {
-    Ok(match dice.roll(6) {
-        0 => Call::Mkdir(any_path(alloc, dice)?),
-        1 => Call::Remove(any_path(alloc, dice)?),
-        2 => {
-            let from = any_path(alloc, dice)?;
-            Call::Rename(from, any_path(alloc, dice)?)
-        }
-        _ => Call::Create(any_path(alloc, dice)?),
-    })
+fn any_name_call(alloc: Global, dice: &mut Dice) -> Mem<Call> {
+    let path = any_path(alloc, dice)?;
+    match dice.roll(6) {
+        0 => Ok(Call::Mkdir(path)),
+        1 => Ok(Call::Remove(path)),
+        2 => Ok(Call::Rename(path, any_path(alloc, dice)?)),
+        _ => Ok(Call::Create(path)),
+    }
 }
 
 fn any_bytes(alloc: Global, dice: &mut Dice) -> Mem<ByteList> {
-    let mut bytes = ByteList::new(alloc)?;
     let value = dice.roll(256) as u8;
-    for _ in 0..=dice.roll(100) {
-        bytes.push(value)?;
-    }
-    Ok(bytes)
+    let count = 1 + dice.roll(100) as usize;
+    Ok(ByteList::of(vec![in alloc; value; count]?))
 }
 
 fn any_file_call(alloc: Global, dice: &mut Dice) -> Mem<Call> {
     let fid = Fid(1 + dice.roll(FILES));
-    Ok(match dice.roll(4) {
-        0 => Call::Truncate {
-            fid,
-            length: dice.roll(300),
-        },
-        _ => Call::Write {
-            fid,
-            offset: dice.roll(250),
-            bytes: any_bytes(alloc, dice)?,
-        },
+    let place = dice.roll(300);
+    if dice.roll(4) == 0 {
+        return Ok(Call::Truncate { fid, length: place });
+    }
+    Ok(Call::Write {
+        fid,
+        offset: place,
+        bytes: any_bytes(alloc, dice)?,
     })
 }
 
@@ -178,8 +166,8 @@ impl Making {
     }
 
     /// Puts the bytes of a block into the stripe.
-    fn put(&mut self, data: &[u8]) -> Result<Ptr, Fail> {
-        let offset = u32::try_from(self.bytes.len())?;
+    fn put(&mut self, data: &[u8]) -> Mem<Ptr> {
+        let offset = length(self.bytes.slice());
         for byte in data {
             self.bytes.push(*byte)?;
         }
@@ -187,15 +175,20 @@ impl Making {
             log: LogId(1),
             stripe: self.number,
             offset,
-            len: u32::try_from(data.len())?,
+            len: length(data),
         })
     }
 }
 
-fn read(alloc: Global, tree: &Tree, fid: Fid, offset: u32, len: u32) -> Result<ByteList, Fail> {
+/// How many bytes there are, of which there are few.
+fn length(bytes: &[u8]) -> u32 {
+    u32::try_from(bytes.len()).unwrap_or(0)
+}
+
+fn read(alloc: Global, tree: &Tree, fid: Fid, offset: u32, len: u32) -> Mem<ByteList> {
     match tree.answer(alloc, &Call::Read { fid, offset, len })? {
         Reply::Bytes(bytes) => Ok(bytes),
-        _ => Ok(ByteList::new(alloc)?),
+        _ => ByteList::new(alloc),
     }
 }
 
@@ -207,9 +200,8 @@ fn delta(
     found: &Found,
     fid: Fid,
     block: u32,
-) -> Result<Delta, Fail> {
-    let offset = block.checked_mul(BLOCK).ok_or("too far")?;
-    let data = read(alloc, &bench.tree, fid, offset, BLOCK)?;
+) -> Mem<Delta> {
+    let data = read(alloc, &bench.tree, fid, block.saturating_mul(BLOCK), BLOCK)?;
     let was = making.was(found, fid, block);
     let version = making.version(found, fid);
     Ok(Delta::Update(Body {
@@ -222,13 +214,13 @@ fn delta(
 }
 
 /// The blocks that a change reaches: those of a write, and the cut one of a truncation if it was there.
-fn reach(making: &Making, found: &Found, call: &Call) -> Result<Range<u32>, Fail> {
-    Ok(match call {
+fn reach(making: &Making, found: &Found, call: &Call) -> Range<u32> {
+    match call {
         Call::Write { offset, bytes, .. } => {
-            let end = offset
-                .checked_add(u32::try_from(bytes.len())?)
-                .ok_or("too far")?;
-            *offset / BLOCK..end.saturating_sub(1) / BLOCK + 1
+            let last = offset
+                .saturating_add(length(bytes.slice()))
+                .saturating_sub(1);
+            *offset / BLOCK..last / BLOCK + 1
         }
         Call::Truncate { fid, length } => {
             let cut = *length / BLOCK;
@@ -236,7 +228,7 @@ fn reach(making: &Making, found: &Found, call: &Call) -> Result<Range<u32>, Fail
             cut..cut + u32::from(is_there)
         }
         _ => 0..0,
-    })
+    }
 }
 
 fn deltas(
@@ -245,19 +237,19 @@ fn deltas(
     making: &mut Making,
     fid: Fid,
     call: &Call,
-) -> Result<(u64, DeltaList), Fail> {
+) -> Mem<(u64, DeltaList)> {
     let found = bench.manager.lookup(alloc, fid, 0, 64)?;
     let version = making.version(&found, fid);
     let mut list = DeltaList::new(alloc)?;
     if version > 0 {
-        for block in reach(making, &found, call)? {
+        for block in reach(making, &found, call) {
             list.push(delta(alloc, bench, making, &found, fid, block)?)?;
         }
     }
     Ok((version, list))
 }
 
-fn operation(alloc: Global, bench: &Bench, making: &mut Making, what: &Call) -> Result<Op, Fail> {
+fn operation(alloc: Global, bench: &Bench, making: &mut Making, what: &Call) -> Mem<Op> {
     let call = making.number;
     Ok(match what {
         Call::Write { fid, offset, bytes } => {
@@ -267,7 +259,7 @@ fn operation(alloc: Global, bench: &Bench, making: &mut Making, what: &Call) -> 
                 fid: *fid,
                 version,
                 offset: *offset,
-                len: u32::try_from(bytes.len())?,
+                len: length(bytes.slice()),
                 deltas,
             }
         }
@@ -289,15 +281,14 @@ fn operation(alloc: Global, bench: &Bench, making: &mut Making, what: &Call) -> 
 }
 
 /// Carries a call out in the plain tree, and makes the operation of it.
-fn draft(alloc: Global, bench: &mut Bench, making: &mut Making, call: &Call) -> Result<(), Fail> {
+fn draft(alloc: Global, bench: &mut Bench, making: &mut Making, call: &Call) -> Mem<()> {
     let reply = bench.tree.apply(alloc, call)?;
     let op = operation(alloc, bench, making, call)?;
     making.ops.push(op)?;
-    making.replies.push(reply)?;
-    Ok(())
+    making.replies.push(reply)
 }
 
-fn make(alloc: Global, bench: &mut Bench, number: u64) -> Result<Making, Fail> {
+fn make(alloc: Global, bench: &mut Bench, number: u64) -> Mem<Making> {
     let mut making = new_making(alloc, number)?;
     if number < 4 || bench.dice.roll(3) == 0 {
         let call = any_name_call(alloc, &mut bench.dice)?;
@@ -328,14 +319,17 @@ fn same_replies(ones: &[Reply], others: &[Reply]) -> bool {
             .all(|(one, other)| same_reply(one, other))
 }
 
-/// Commits a random batch.
-fn step(alloc: Global, bench: &mut Bench, number: u64) -> Result<(), Fail> {
-    let Making {
-        ops,
-        bytes,
-        replies,
-        ..
-    } = make(alloc, bench, number)?;
+/// Whether the last batch of the log has these replies.
+fn has_replies(manager: &Manager, replies: &[Reply]) -> bool {
+    match manager.last(LogId(1)) {
+        Some((_, found)) => same_replies(replies, found),
+        None => false,
+    }
+}
+
+/// Commits a random batch. Whether it is taken, and has the plain tree's replies.
+fn step(alloc: Global, bench: &mut Bench, number: u64) -> Mem<bool> {
+    let making = make(alloc, bench, number)?;
     let piece = Piece {
         stripe: number,
         offset: 0,
@@ -344,34 +338,42 @@ fn step(alloc: Global, bench: &mut Bench, number: u64) -> Result<(), Fail> {
     let batch = Batch {
         log: LogId(1),
         number,
-        ops,
+        ops: making.ops,
     };
-    commit(alloc, &mut bench.manager, &batch, &[piece])?;
-    bench.stripes.insert(number, bytes)?;
-    let Some((_, found)) = bench.manager.last(LogId(1)) else {
-        return Err(Fail::new("no batch"));
-    };
-    if !same_replies(replies.slice(), found) {
-        return Err(Fail::new("other replies"));
+    bench.stripes.insert(number, making.bytes)?;
+    let is_taken = commit(alloc, &mut bench.manager, &batch, piece)?;
+    Ok(is_taken && has_replies(&bench.manager, making.replies.slice()))
+}
+
+/// The bytes of a pointer, as its stripe has them.
+fn block_bytes(alloc: Global, bench: &Bench, ptr: &Ptr) -> Mem<ByteList> {
+    match bench.stripes.get(&ptr.stripe) {
+        Some(stripe) => bytes_from(alloc, stripe.slice(), ptr.offset as usize, ptr.len as usize),
+        None => ByteList::new(alloc),
     }
-    Ok(())
 }
 
 /// A file's bytes, as the file manager's tables and the stripes show them.
-fn shown(alloc: Global, bench: &Bench, fid: Fid) -> Result<ByteList, Fail> {
+fn shown(alloc: Global, bench: &Bench, fid: Fid) -> Mem<ByteList> {
     let found = bench.manager.lookup(alloc, fid, 0, 64)?;
     let mut bytes = ByteList::new(alloc)?;
     for (block, ptr) in found.blocks.slice() {
-        let stripe = bench.stripes.get(&ptr.stripe).ok_or("no stripe")?;
-        let data = bytes_from(alloc, stripe.slice(), ptr.offset as usize, ptr.len as usize)?;
+        let data = block_bytes(alloc, bench, ptr)?;
         let place = *block as usize * BLOCK as usize;
         bytes = bytes_written(alloc, bytes.slice(), place, data.slice())?;
     }
-    Ok(bytes_resized(alloc, bytes.slice(), found.length as usize)?)
+    bytes_resized(alloc, bytes.slice(), found.length as usize)
+}
+
+/// Whether a file has the bytes that it has in the plain tree.
+fn shows_same(alloc: Global, bench: &Bench, fid: Fid) -> Mem<bool> {
+    let wanted = read(alloc, &bench.tree, fid, 0, 4096)?;
+    let found = shown(alloc, bench, fid)?;
+    Ok(found.slice() == wanted.slice())
 }
 
 /// Whether a path names the same in the file manager as in the plain tree.
-fn names_same(alloc: Global, bench: &Bench, text: &[u8]) -> Result<bool, Fail> {
+fn names_same(alloc: Global, bench: &Bench, text: &[u8]) -> Mem<bool> {
     let path = path(alloc, text)?;
     let found = bench.manager.names().resolve(&path);
     let wanted = bench.tree.answer(alloc, &Call::Stat(path))?;
@@ -383,24 +385,28 @@ fn names_same(alloc: Global, bench: &Bench, text: &[u8]) -> Result<bool, Fail> {
     })
 }
 
+/// Whether all files and names are those of the plain tree.
+fn is_same(alloc: Global, bench: &Bench) -> Mem<bool> {
+    for fid in 1..=FILES {
+        if !shows_same(alloc, bench, Fid(fid))? {
+            return Ok(false);
+        }
+    }
+    for text in PATHS {
+        if !names_same(alloc, bench, text)? {
+            return Ok(false);
+        }
+    }
+    Ok(true)
+}
+
 #[test]
 fn random_batches_show_the_plain_tree(rt: HostRuntime) -> Result<(), Fail> {
     let alloc = rt.alloc();
     let mut bench = new_bench(alloc)?;
     for number in 1..=100 {
-        step(alloc, &mut bench, number)?;
-        for fid in 1..=FILES {
-            let wanted = read(alloc, &bench.tree, Fid(fid), 0, 4096)?;
-            let found = shown(alloc, &bench, Fid(fid))?;
-            assert_eq!(rt;
-                found.slice(),
-                wanted.slice(),
-                "file {fid} after batch {number}"
-            );
-        }
-    }
-    for text in [b"/a".as_slice(), b"/b", b"/c", b"/c/d"] {
-        assert!(rt; names_same(alloc, &bench, text)?);
+        assert!(rt; step(alloc, &mut bench, number)?, "batch {number} is taken");
+        assert!(rt; is_same(alloc, &bench)?, "after batch {number}");
     }
     Ok(())
 }

@@ -345,20 +345,15 @@ fn step(alloc: Global, bench: &mut Bench, number: u64) -> Mem<bool> {
     Ok(is_taken && has_replies(&bench.manager, making.replies.slice()))
 }
 
-/// The bytes of a pointer, as its stripe has them.
-fn block_bytes(alloc: Global, bench: &Bench, ptr: &Ptr) -> Mem<ByteList> {
-    match bench.stripes.get(&ptr.stripe) {
-        Some(stripe) => bytes_from(alloc, stripe.slice(), ptr.offset as usize, ptr.len as usize),
-        None => ByteList::new(alloc),
-    }
-}
-
-/// A file's bytes, as the file manager's tables and the stripes show them.
+/// A file's bytes, as the file manager's tables and the stripes show them; none where a stripe is wanting.
 fn shown(alloc: Global, bench: &Bench, fid: Fid) -> Mem<ByteList> {
     let found = bench.manager.lookup(alloc, fid, 0, 64)?;
     let mut bytes = ByteList::new(alloc)?;
     for (block, ptr) in found.blocks.slice() {
-        let data = block_bytes(alloc, bench, ptr)?;
+        let Some(stripe) = bench.stripes.get(&ptr.stripe) else {
+            return ByteList::new(alloc);
+        };
+        let data = bytes_from(alloc, stripe.slice(), ptr.offset as usize, ptr.len as usize)?;
         let place = *block as usize * BLOCK as usize;
         bytes = bytes_written(alloc, bytes.slice(), place, data.slice())?;
     }

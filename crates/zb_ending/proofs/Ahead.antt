@@ -1,11 +1,11 @@
 -- Entries and calls ahead are no more behind a step.
-use Rattle.std.proofs.Common.{◌≡◌, ℕ, zero, suc, ◌+◌, ◌≤◌, true, false, Bool, List, [], ◌∷◌, ◌++◌, length, length-append, drop, Option, Some, None, refl, sym, ap, ◌∙◌, subst, arith, inl, inr}
-use Rattle.std.specs.Prelude.{◌⊎◌, ◌&&◌, if◌then◌else◌, nat_lt, slice_get, slice_set}
+use Rattle.std.proofs.Common.{◌≡◌, ℕ, zero, suc, ◌+◌, ◌≤◌, true, false, List, [], ◌∷◌, ◌++◌, length, length-append, drop, Option, Some, None, refl, sym, ap, ◌∙◌, subst, arith, inl, inr}
+use Rattle.std.specs.Prelude.{◌⊎◌, ◌&&◌, nat_lt, slice_get, slice_set}
 use Rattle.std.specs.List.{sum_by}
 use Rattle.std.proofs.lemmas.Bool.{cond_both}
 use Rattle.std.proofs.lemmas.List.{length-take}
 use Rattle.std.proofs.lemmas.List.Sums.{sum_by-cons}
-use Rattle.zb_types.specs.Apply.{is_bufferable, is_update, reply_to}
+use Rattle.zb_types.specs.Apply.{is_bufferable, is_update}
 use Rattle.zb_types.specs.Limits.{most_kept}
 use Rattle.zb_types.specs.Tree.{Tree}
 use Rattle.zb_types.specs.declared.calls.Call.{Call}
@@ -15,18 +15,11 @@ use Rattle.zb_types.specs.declared.lines.Said.{Said}
 use Rattle.zb_types.specs.declared.lines.Said.TheVariants as said
 use Rattle.zb_types.specs.declared.nodes.Cause.{Cause}
 use Rattle.zb_types.specs.declared.nodes.Cause.TheVariants.{NoSpace}
-use Rattle.zb_types.specs.declared.requests.Response.{Response}
-use Rattle.zb_types.specs.declared.requests.Response.TheVariants as told
-use Rattle.zb_types.specs.declared.requests.StoreFault.TheVariants as fault
 use Rattle.zb_stripe.specs.Reading.{Reading, asked}
 use Rattle.zb_given.specs.Given.{Given, calls_of}
 use Rattle.zb_tables.specs.Tables.{Tables, last_value, risen}
-use Rattle.zb_manager.specs.Managers.{SeenManager}
-use Rattle.zb_manager.specs.Seen.{held_by}
 use Rattle.zb_turns.specs.Turns.{other_holder}
 use Rattle.zb_servers.specs.Serving.{is_refused}
-use Rattle.zb_servers.specs.Standing.{has}
-use Rattle.zb_servers_laws.specs.Answered.{lacks_slot}
 use Rattle.zb_basis.specs.declared.basis.Basis.{Basis}
 use Rattle.zb_basis.specs.declared.basis.Formed.{Formed}
 use Rattle.zb_basis.specs.declared.basis.Sealed.{Sealed}
@@ -36,32 +29,24 @@ use Rattle.zb_work.specs.declared.work.Aim.TheVariants.{Update, Read, Finish}
 use Rattle.zb_work.specs.declared.work.Step.{Step}
 use Rattle.zb_work.specs.declared.work.Step.TheVariants as step
 use Rattle.zb_work.specs.declared.work.Task.{Task}
-use Rattle.zb_work.specs.Steps.{new_task, step_of}
-use Rattle.zb_client.specs.declared.steps.Lookup.{Lookup}
-use Rattle.zb_client.specs.declared.steps.Lookup.TheVariants.{Files, Names}
+use Rattle.zb_work.specs.Steps.{new_task}
 use Rattle.zb_client.specs.declared.steps.Told.{Told}
-use Rattle.zb_client.specs.Hearing.{HearsStore, keeps, takes_first}
+use Rattle.zb_client.specs.Hearing.{keeps, takes_first}
 use Rattle.zb_client.specs.Seen.{SeenClient, unready}
 use Rattle.zb_client.specs.Telling.{Heard, answers_first, gives_up_aim, gives_up_for}
 use Rattle.zb_client.specs.Wishing.{lookup_of}
 use Rattle.zb_client_laws.specs.Around.{Around}
 use Rattle.zb_client_laws.specs.Effects.{GivesUp, SameCalls, TellsNothing, TellsRight}
 use Rattle.zb_client_laws.specs.Known.{IsKnown}
-use Rattle.zb_client_laws.specs.Sound.{ClientIsSound}
-use Rattle.zb_client_laws.proofs.Fetched.{fetch_goes_on}
-use Rattle.zb_client_laws.proofs.Looking.{found_sound, named_sound}
-use Rattle.zb_client_laws.proofs.Storing.{done_sound, full_told}
-use Rattle.zb_client_laws.proofs.Telling.{outdated_told}
 use Rattle.zb_line_laws.specs.Calls.{queues}
 use Rattle.zb_system.specs.First.{AreFirst, all_attached, attached_to}
 use Rattle.zb_system.specs.Nodes.{IsClient, SeenNodes, readied, with_client}
 use Rattle.zb_system.specs.Looking.{tree_for}
 use Rattle.zb_system.specs.Sound.{AreSound}
 use Rattle.zb_system.specs.Steps.{Commits, Does, DoesStep, Fetches, HasStepped, IsBehindNow, IsReadied, LooksUp, Stores, TakesCall}
-use Rattle.zb_system.proofs.Asking.{fetch_from}
-use Rattle.zb_system.proofs.Quiet.{World, known_ready, sound_ready}
-use Rattle.zb_system.proofs.Storing.{answer_is, head_is}
+use Rattle.zb_system.proofs.Quiet.{World}
 use Rattle.zb_ending.specs.Entries.{calls_ahead, entries_ahead}
+use Rattle.zb_ending.proofs.Tells.{SameBoth, behind_tells, both_same, fetch_right, held_same, looked_same, lookup_right, store_tells}
 use Rattle.zb_ending.proofs.Replied.{calls_end}
 use Rattle.zb_ending.proofs.Totals.{set_swap}
 
@@ -122,16 +107,13 @@ module _ {given : Given} {lines : List Outcome} {old : SeenNodes} (s : AreSound 
   abbrev C : SeenClient
   C = readied c
 
-  abbrev S : ClientIsSound W Seen C
-  S = sound_ready s i c is
-
   abbrev Few : Heard → Type 0
   Few h = calls_ahead h.client ≤ calls_ahead c
 
   -- no entry is made
-  without : new.manager.tables ≡ old.manager.tables → Few heard → entries_ahead new ≤ entries_ahead old
-  without tables few =
-      let entry = ap (λ (t : Tables). t.next_entry) tables in
+  without : SameBoth old new → Few heard → entries_ahead new ≤ entries_ahead old
+  without same few =
+      let entry = ap (λ (t : Tables). t.next_entry) same.tables in
       no_more old new i c heard.client is clients_are (omega (arith, entry, few))
 
   quiet_few : TellsNothing C heard → Few heard
@@ -144,60 +126,31 @@ module _ {given : Given} {lines : List Outcome} {old : SeenNodes} (s : AreSound 
       let less = answered_ahead d d.queue (said.Reply answers.reply) refl in
       subst Few (sym answers.is) (omega (arith, same, less))
 
+  gives_few : (cause : Cause) → GivesUp C cause heard → Few heard
+  gives_few cause up =
+      let same = same_ahead C up.noted up.same in
+      let less = up_ahead up.noted up.noted.task cause in
+      subst Few (sym up.is) (omega (arith, same, less))
+
   call_few : TakesCall old new C heard → entries_ahead new ≤ entries_ahead old
-  call_few takes = without (ap (λ (m : SeenManager). m.tables) takes.same.manager) (subst Few (sym takes.heard_is) (taken_ahead C c.queue refl))
+  call_few takes = without (both_same old new takes.same.manager) (subst Few (sym takes.heard_is) (taken_ahead C c.queue refl))
 
   module _ (task : Task) (work : c.task ≡ Some task) where
-    held_tables : (hold : Bool) → (if hold then held_by (Some c.client) old.manager else old.manager).tables ≡ old.manager.tables
-    held_tables true = refl
-    held_tables false = refl
-
-    lookup_few : task.step ≡ step.Lookup → (wanted : Lookup) → lookup_of C task.tries c.kept ≡ wanted → LooksUp old new C task wanted heard → entries_ahead new ≤ entries_ahead old
-    lookup_few at (Files hold asks) wants looks =
-        without (ap (λ (m : SeenManager). m.tables) looks.0.manager ∙ held_tables hold)
-        (right_few W.tree (found_sound old.servers.slots W s.stands Seen C (known_ready c known) S task work at asks hold wants heard looks.1).1)
-    lookup_few at (Names call) wants looks =
-        without (ap (λ (m : SeenManager). m.tables) looks.same.manager)
-        (right_few W.tree
-        (named_sound old.servers.slots W s.stands Seen C (known_ready c known) S task work at call looks.reply
-        (looks.right s.contents ∙ ap (λ (t : Tree). reply_to t call) s.stands.stands.says.shows) heard wants looks.heard_is).1)
+    lookup_few : task.step ≡ step.Lookup → LooksUp old new C task (lookup_of C task.tries c.kept) heard → entries_ahead new ≤ entries_ahead old
+    lookup_few at looks =
+        without (looked_same old new C task (lookup_of C task.tries c.kept) heard looks)
+        (right_few W.tree (lookup_right s i c is known task work new heard clients_are at (lookup_of C task.tries c.kept) refl looks))
 
     fetch_few : (basis : Basis) (place : ℕ) (ptr : Ptr) (plan : Reading) → task.step ≡ step.Fetch basis place ptr plan
         → Fetches old new C basis (step.Fetch basis place ptr plan) (asked plan) heard → entries_ahead new ≤ entries_ahead old
-    fetch_few basis place ptr plan at f =
-        without (ap (λ (m : SeenManager). m.tables) f.manager)
-        (right_few Seen
-        (fetch_goes_on old.servers.slots W s.stands Seen C (known_ready c known) S basis place ptr plan (ap step_of work ∙ at) f.response f.serving heard
-        (fetch_from s i c is known task work basis place ptr plan at f.asked f.response f.is f.served.answer) f.hears).1)
+    fetch_few basis place ptr plan at f = without (both_same old new f.manager) (right_few Seen (fetch_right s i c is known task work new heard clients_are basis place ptr plan at f))
 
-    module _ (basis : Basis) (formed : Formed) (at : task.step ≡ step.Store basis formed) (f : Stores old new C basis formed heard) where
-      noted_tables : (b : Bool) → (if b then held_by (other_holder c.client old.manager.holder) old.manager else old.manager).tables ≡ old.manager.tables
-      noted_tables true = refl
-      noted_tables false = refl
-
-      hears_as : (response : Response) → f.response ≡ response → HearsStore C (step.Store basis formed) response heard
-      hears_as response e = subst (λ (r : Response). HearsStore C (step.Store basis formed) r heard) e f.hears
-
-      gives_few : (cause : Cause) → GivesUp C cause heard → Few heard
-      gives_few cause up =
-          let same = same_ahead C up.noted up.same in
-          let less = up_ahead up.noted up.noted.task cause in
-          subst Few (sym up.is) (omega (arith, same, less))
-
-      store_calls : (lacks : Bool) → f.response ≡ (if lacks then told.Refused (fault.NoSlot (has old.servers f.asked.0).free) else told.Done) → Few heard
-      store_calls true e =
-          gives_few (NoSpace f.asked.0)
-          (subst (GivesUp C (NoSpace f.asked.0)) (sym (hears_as (told.Refused (fault.NoSlot (has old.servers f.asked.0).free)) e))
-          (full_told W Seen C S basis formed (ap step_of work ∙ at) (has old.servers f.asked.0).free f.asked (head_is formed.plan ∙ f.is)))
-      store_calls false e =
-          quiet_few
-          (subst (λ (h : Heard). TellsNothing C h) (sym (hears_as told.Done e))
-          (done_sound W Seen C S basis formed (ap step_of work ∙ at) old.servers.slots s.stands f.asked (head_is formed.plan ∙ f.is)).1)
-
-      store_few : entries_ahead new ≤ entries_ahead old
-      store_few =
-          without (ap (λ (m : SeenManager). m.tables) f.manager ∙ noted_tables (is_refused f.response))
-          (store_calls (lacks_slot (has old.servers f.asked.0) f.asked.1) (answer_is s i c is known task work basis formed at new heard clients_are f))
+    store_few : (basis : Basis) (formed : Formed) → task.step ≡ step.Store basis formed → Stores old new C basis formed heard → entries_ahead new ≤ entries_ahead old
+    store_few basis formed at f =
+        without (held_same old new (is_refused f.response) (other_holder c.client old.manager.holder) f.manager) (by (store_tells s i c is known task work new heard clients_are basis formed at f)) where
+          by : ((is_refused f.response ≡ false) × TellsNothing C heard) ⊎ ((is_refused f.response ≡ true) × GivesUp C (NoSpace f.asked.0) heard) → Few heard
+          by (inl done) = quiet_few done.1
+          by (inr up) = gives_few (NoSpace f.asked.0) up.1
 
     commit_few : (basis : Basis) (sealed : Sealed) → task.step ≡ step.Commit basis sealed → Commits old new C sealed heard ⊎ IsBehindNow old new C sealed heard → entries_ahead new ≤ entries_ahead old
     commit_few basis sealed at (inl done) =
@@ -206,10 +159,11 @@ module _ {given : Given} {lines : List Outcome} {old : SeenNodes} (s : AreSound 
         let entry : new.manager.tables.next_entry ≡ risen old.manager.tables.next_entry = ap (λ (t : Tables). t.next_entry) done.committed.tables in
         let rises = rises_by_one old.manager.tables.next_entry in
         no_more old new i c heard.client is clients_are (omega (arith, ended, calls, entry, rises))
-    commit_few basis sealed at (inr behind) = without behind.same.tables (quiet_few (subst (λ (h : Heard). TellsNothing C h) (sym behind.heard_is) (outdated_told C behind.fault)))
+    commit_few basis sealed at (inr behind) =
+        without (record { tables = behind.same.tables; sizes = behind.same.sizes }) (quiet_few (behind_tells s i c is known task work new heard clients_are sealed behind))
 
     step_few : (st : Step) → task.step ≡ st → DoesStep old new C task st heard → entries_ahead new ≤ entries_ahead old
-    step_few step.Lookup at does = lookup_few at (lookup_of C task.tries c.kept) refl does
+    step_few step.Lookup at does = lookup_few at does
     step_few (step.Fetch basis place ptr plan) at does = fetch_few basis place ptr plan at does
     step_few (step.Store basis formed) at does = store_few basis formed at does
     step_few (step.Mark server generation) at does = absurd does

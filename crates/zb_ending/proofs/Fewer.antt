@@ -12,8 +12,6 @@ use Rattle.zb_stripe.specs.Reading.{Reading, asked}
 use Rattle.zb_given.specs.Given.{Given}
 use Rattle.zb_tables.specs.Tables.{Tables}
 use Rattle.zb_tables.specs.Taking.{Sizes}
-use Rattle.zb_manager.specs.Managers.{SeenManager}
-use Rattle.zb_manager.specs.Seen.{held_by}
 use Rattle.zb_turns.specs.Turns.{other_holder}
 use Rattle.zb_servers.specs.Serving.{is_refused}
 use Rattle.zb_servers.specs.Standing.{has}
@@ -50,6 +48,7 @@ use Rattle.zb_system.proofs.Asking.{fetch_from}
 use Rattle.zb_system.proofs.Quiet.{World, known_ready, sound_ready}
 use Rattle.zb_system.proofs.Storing.{answer_is, head_is}
 use Rattle.zb_ending.specs.Left.{work_left}
+use Rattle.zb_ending.proofs.Tells.{SameBoth, both_same, held_same, looked_same}
 use Rattle.zb_ending.proofs.Replied.{replies_count}
 use Rattle.zb_ending.proofs.Totals.{set_more, set_swap}
 
@@ -97,53 +96,35 @@ module _ {given : Given} {lines : List Outcome} {old : SeenNodes} (s : AreSound 
   abbrev Falls : Heard → Type 0
   Falls h = steps_left W.z W.tables h.client < steps_left W.z W.tables C
 
-  by_own : new.manager.sizes ≡ old.manager.sizes → new.manager.tables ≡ old.manager.tables → Falls heard → work_left new < work_left old
-  by_own sizes tables falls = fewer old new i c heard.client is clients_are sizes tables falls
+  by_own : SameBoth old new → Falls heard → work_left new < work_left old
+  by_own same falls = fewer old new i c heard.client is clients_are same.sizes same.tables falls
 
   call_less : c.task ≡ None → TakesCall old new C heard → work_left new < work_left old
-  call_less none takes =
-      by_own (ap (λ (m : SeenManager). m.sizes) takes.same.manager) (ap (λ (m : SeenManager). m.tables) takes.same.manager)
-      (subst Falls (sym takes.heard_is) (call-falls W.z W.tables C none takes.queued))
+  call_less none takes = by_own (both_same old new takes.same.manager) (subst Falls (sym takes.heard_is) (call-falls W.z W.tables C none takes.queued))
 
   module _ (task : Task) (work : c.task ≡ Some task) where
     -- ---- a lookup
 
-    held_tables : (hold : Bool) → (if hold then held_by (Some c.client) old.manager else old.manager).tables ≡ old.manager.tables
-    held_tables true = refl
-    held_tables false = refl
+    lookup_falls : task.step ≡ step.Lookup → (wanted : Lookup) → lookup_of C task.tries c.kept ≡ wanted → LooksUp old new C task wanted heard → Falls heard
+    lookup_falls at (Files hold asks) wants looks = found-falls old.servers.slots W s.stands Seen C (known_ready c known) S task work at hold asks wants heard looks.1
+    lookup_falls at (Names call) wants looks = subst Falls (sym looks.heard_is) (named-falls W.z W.tables C task work looks.reply call wants)
 
-    held_sizes : (hold : Bool) → (if hold then held_by (Some c.client) old.manager else old.manager).sizes ≡ old.manager.sizes
-    held_sizes true = refl
-    held_sizes false = refl
-
-    lookup_less : task.step ≡ step.Lookup → (wanted : Lookup) → lookup_of C task.tries c.kept ≡ wanted → LooksUp old new C task wanted heard → work_left new < work_left old
-    lookup_less at (Files hold asks) wants looks =
-        by_own (ap (λ (m : SeenManager). m.sizes) looks.0.manager ∙ held_sizes hold) (ap (λ (m : SeenManager). m.tables) looks.0.manager ∙ held_tables hold)
-        (found-falls old.servers.slots W s.stands Seen C (known_ready c known) S task work at hold asks wants heard looks.1)
-    lookup_less at (Names call) wants looks =
-        by_own (ap (λ (m : SeenManager). m.sizes) looks.same.manager) (ap (λ (m : SeenManager). m.tables) looks.same.manager)
-        (subst Falls (sym looks.heard_is) (named-falls W.z W.tables C task work looks.reply call wants))
+    lookup_less : task.step ≡ step.Lookup → LooksUp old new C task (lookup_of C task.tries c.kept) heard → work_left new < work_left old
+    lookup_less at looks =
+        by_own (looked_same old new C task (lookup_of C task.tries c.kept) heard looks) (lookup_falls at (lookup_of C task.tries c.kept) refl looks)
 
     -- ---- a fetch
 
     fetch_less : (basis : Basis) (place : ℕ) (ptr : Ptr) (plan : Reading) → task.step ≡ step.Fetch basis place ptr plan
         → Fetches old new C basis (step.Fetch basis place ptr plan) (asked plan) heard → work_left new < work_left old
     fetch_less basis place ptr plan at f =
-        by_own (ap (λ (m : SeenManager). m.sizes) f.manager) (ap (λ (m : SeenManager). m.tables) f.manager)
+        by_own (both_same old new f.manager)
         (fetch-falls old.servers.slots W s.stands Seen C (known_ready c known) S basis place ptr plan (ap step_of work ∙ at) f.response f.serving heard
         (fetch_from s i c is known task work basis place ptr plan at f.asked f.response f.is f.served.answer) f.hears)
 
     -- ---- a store
 
     module _ (basis : Basis) (formed : Formed) (at : task.step ≡ step.Store basis formed) (f : Stores old new C basis formed heard) where
-      noted_tables : (b : Bool) → (if b then held_by (other_holder c.client old.manager.holder) old.manager else old.manager).tables ≡ old.manager.tables
-      noted_tables true = refl
-      noted_tables false = refl
-
-      noted_sizes : (b : Bool) → (if b then held_by (other_holder c.client old.manager.holder) old.manager else old.manager).sizes ≡ old.manager.sizes
-      noted_sizes true = refl
-      noted_sizes false = refl
-
       hears_as : (response : Response) → f.response ≡ response → HearsStore C (step.Store basis formed) response heard
       hears_as response e = subst (λ (r : Response). HearsStore C (step.Store basis formed) r heard) e f.hears
 
@@ -156,7 +137,7 @@ module _ {given : Given} {lines : List Outcome} {old : SeenNodes} (s : AreSound 
 
       store_less : work_left new < work_left old
       store_less =
-          by_own (ap (λ (m : SeenManager). m.sizes) f.manager ∙ noted_sizes (is_refused f.response)) (ap (λ (m : SeenManager). m.tables) f.manager ∙ noted_tables (is_refused f.response))
+          by_own (held_same old new (is_refused f.response) (other_holder c.client old.manager.holder) f.manager)
           (store_falls (lacks_slot (has old.servers f.asked.0) f.asked.1) (answer_is s i c is known task work basis formed at new heard clients_are f))
 
     -- ---- a commit
@@ -164,7 +145,7 @@ module _ {given : Given} {lines : List Outcome} {old : SeenNodes} (s : AreSound 
     module _ (basis : Basis) (sealed : Sealed) (at : task.step ≡ step.Commit basis sealed) where
       behind_less : IsBehindNow old new C sealed heard → work_left new < work_left old
       behind_less behind =
-          by_own behind.same.sizes behind.same.tables
+          by_own (record { tables = behind.same.tables; sizes = behind.same.sizes })
           (subst Falls (sym behind.heard_is)
           (refused-falls W.z W.tables C basis sealed (ap step_of work ∙ at)
           (refused-stale W Seen C S basis sealed (ap step_of work ∙ at) old.servers.slots s.stands (known_ready c known) may behind.fault behind.refusal).1 behind.fault))
@@ -182,7 +163,7 @@ module _ {given : Given} {lines : List Outcome} {old : SeenNodes} (s : AreSound 
     -- ---- any of them
 
     step_less : (st : Step) → task.step ≡ st → DoesStep old new C task st heard → work_left new < work_left old
-    step_less step.Lookup at does = lookup_less at (lookup_of C task.tries c.kept) refl does
+    step_less step.Lookup at does = lookup_less at does
     step_less (step.Fetch basis place ptr plan) at does = fetch_less basis place ptr plan at does
     step_less (step.Store basis formed) at does = store_less basis formed at does
     step_less (step.Mark server generation) at does = absurd does

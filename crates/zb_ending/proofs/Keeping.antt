@@ -2,24 +2,19 @@
 use Rattle.std.proofs.Common.{◌≡◌, ◌≢◌, ℕ, ◌+◌, ◌<◌, true, false, Bool, List, [], ◌∷◌, length, Option, Some, None, refl, sym, ap, ◌∙◌, subst, arith, inl, inr}
 use Rattle.std.specs.Prelude.{◌⊎◌, if◌then◌else◌, is_some, slice_get, slice_set}
 use Rattle.std.proofs.lemmas.Option.{same_Some}
-use Rattle.zb_types.specs.Apply.{reply_to}
 use Rattle.zb_types.specs.Tree.{Tree}
 use Rattle.zb_types.specs.declared.calls.Call.{Call}
 use Rattle.zb_types.specs.declared.calls.Call.TheVariants.{Create, Mkdir, Remove, Rename, Write, Truncate, Sync, Read, List as ListOf, Stat, Find}
 use Rattle.zb_types.specs.declared.ids.Ptr.{Ptr}
 use Rattle.zb_types.specs.declared.lines.Kind.TheVariants as kind
 use Rattle.zb_types.specs.declared.lines.Outcome.{Outcome}
-use Rattle.zb_types.specs.declared.requests.Response.{Response}
-use Rattle.zb_types.specs.declared.requests.Response.TheVariants as told
-use Rattle.zb_types.specs.declared.requests.StoreFault.TheVariants as fault
+use Rattle.zb_types.specs.declared.nodes.Cause.TheVariants.{NoSpace}
 use Rattle.zb_stripe.specs.Reading.{Reading, asked}
 use Rattle.zb_given.specs.Given.{Given}
 use Rattle.zb_manager.specs.Managers.{SeenManager}
 use Rattle.zb_manager.specs.Seen.{held_by}
 use Rattle.zb_turns.specs.Turns.{other_holder}
 use Rattle.zb_servers.specs.Serving.{is_refused}
-use Rattle.zb_servers.specs.Standing.{has}
-use Rattle.zb_servers_laws.specs.Answered.{lacks_slot}
 use Rattle.zb_basis.specs.declared.basis.Basis.{Basis}
 use Rattle.zb_basis.specs.declared.basis.Formed.{Formed}
 use Rattle.zb_basis.specs.declared.basis.Sealed.{Sealed}
@@ -29,31 +24,24 @@ use Rattle.zb_work.specs.declared.work.Aim.TheVariants.{Finish}
 use Rattle.zb_work.specs.declared.work.Step.{Step}
 use Rattle.zb_work.specs.declared.work.Step.TheVariants as step
 use Rattle.zb_work.specs.declared.work.Task.{Task}
-use Rattle.zb_work.specs.Steps.{new_task, step_of}
+use Rattle.zb_work.specs.Steps.{new_task}
 use Rattle.zb_client.specs.declared.steps.Lookup.{Lookup}
 use Rattle.zb_client.specs.declared.steps.Lookup.TheVariants.{Files, Names}
 use Rattle.zb_client.specs.declared.steps.Told.{Told}
-use Rattle.zb_client.specs.Hearing.{HearsStore}
 use Rattle.zb_client.specs.Seen.{SeenClient, kind_of, unready}
 use Rattle.zb_client.specs.Telling.{Heard}
 use Rattle.zb_client.specs.Wishing.{lookup_of, queue_lookup, read_lookup}
 use Rattle.zb_client_laws.specs.Around.{Around}
-use Rattle.zb_client_laws.specs.Effects.{TellsNothing, TellsRight}
+use Rattle.zb_client_laws.specs.Effects.{GivesUp, TellsNothing, TellsRight}
 use Rattle.zb_client_laws.specs.Known.{IsKnown}
-use Rattle.zb_client_laws.specs.Sound.{ClientIsSound}
-use Rattle.zb_client_laws.proofs.Fetched.{fetch_goes_on}
-use Rattle.zb_client_laws.proofs.Looking.{found_sound, named_sound}
-use Rattle.zb_client_laws.proofs.Storing.{done_sound}
-use Rattle.zb_client_laws.proofs.Telling.{outdated_told}
 use Rattle.zb_line_laws.specs.Calls.{queues}
 use Rattle.zb_system.specs.Nodes.{IsClient, SeenNodes, readied, with_client}
 use Rattle.zb_system.specs.Looking.{tree_for}
 use Rattle.zb_system.specs.Sound.{AreSound}
 use Rattle.zb_system.specs.Steps.{Commits, Does, DoesStep, Fetches, HasStepped, IsBehindNow, IsReadied, LooksUp, LooksUpFiles, Stores, TakesCall}
-use Rattle.zb_system.proofs.Asking.{fetch_from}
-use Rattle.zb_system.proofs.Quiet.{World, known_ready, sound_ready}
-use Rattle.zb_system.proofs.Storing.{answer_is, head_is}
+use Rattle.zb_system.proofs.Quiet.{World}
 use Rattle.zb_ending.specs.Holding.{ClientWorks, HolderWorks, IsAtWork, SomeGoesOn}
+use Rattle.zb_ending.proofs.Tells.{behind_tells, fetch_right, lookup_right, store_tells}
 use Rattle.zb_ending.proofs.Busy.{holder_all, holder_of, holds_still, none_holds, not_idle, other_is, own_free, stays_at_work, without_calls, without_work, works_elsewhere, works_here}
 
 -- ---- whose lookup is to hold
@@ -100,18 +88,16 @@ module _ {given : Given} {lines : List Outcome} {old : SeenNodes} (s : AreSound 
   abbrev C : SeenClient
   C = readied c
 
-  abbrev S : ClientIsSound W Seen C
-  S = sound_ready s i c is
-
   number_is : c.client ≡ i + 1
   number_is = (s.clients i c is).1
 
-  ready_works : IsAtWork c → IsAtWork C
-  ready_works w = record { keeps = w.keeps; works = w.works }
+  -- whoever is at work stays so where nothing is told
+  quiet_stays : TellsNothing C heard → IsAtWork c → IsAtWork heard.client
+  quiet_stays quiet w = stays_at_work C heard.client quiet.same (record { keeps = w.keeps; works = w.works })
 
-  -- whoever is at work stays so: nothing is told, or a read is answered where no call is kept
+  -- a read is answered where no call is kept
   right_stays : (seen : Tree) → TellsRight seen C heard → IsAtWork c → IsAtWork heard.client
-  right_stays seen (inl quiet) w = stays_at_work C heard.client quiet.same (ready_works w)
+  right_stays seen (inl quiet) w = quiet_stays quiet w
   right_stays seen (inr (d, answers)) w = absurd (without_calls c answers.none_kept w)
 
   -- the same one holds
@@ -141,27 +127,23 @@ module _ {given : Given} {lines : List Outcome} {old : SeenNodes} (s : AreSound 
 
     lookup_keeps : task.step ≡ step.Lookup → (wanted : Lookup) → lookup_of C task.tries c.kept ≡ wanted → LooksUp old new C task wanted heard → HolderWorks new
     lookup_keeps at (Files hold asks) wants looks =
-        files_keep hold asks wants looks.0
-        (right_stays W.tree (found_sound old.servers.slots W s.stands Seen C (known_ready c known) S task work at asks hold wants heard looks.1).1)
+        files_keep hold asks wants looks.0 (right_stays W.tree (lookup_right s i c is known task work new heard clients_are at (Files hold asks) wants looks))
     lookup_keeps at (Names call) wants looks =
-        still (ap (λ (m : SeenManager). m.holder) looks.same.manager)
-        (right_stays W.tree
-        (named_sound old.servers.slots W s.stands Seen C (known_ready c known) S task work at call looks.reply
-        (looks.right s.contents ∙ ap (λ (t : Tree). reply_to t call) s.stands.stands.says.shows) heard wants looks.heard_is).1)
+        still (ap (λ (m : SeenManager). m.holder) looks.same.manager) (right_stays W.tree (lookup_right s i c is known task work new heard clients_are at (Names call) wants looks))
 
     -- ---- a fetch
 
     fetch_keeps : (basis : Basis) (place : ℕ) (ptr : Ptr) (plan : Reading) → task.step ≡ step.Fetch basis place ptr plan
         → Fetches old new C basis (step.Fetch basis place ptr plan) (asked plan) heard → HolderWorks new
     fetch_keeps basis place ptr plan at f =
-        still (ap (λ (m : SeenManager). m.holder) f.manager)
-        (right_stays Seen
-        (fetch_goes_on old.servers.slots W s.stands Seen C (known_ready c known) S basis place ptr plan (ap step_of work ∙ at) f.response f.serving heard
-        (fetch_from s i c is known task work basis place ptr plan at f.asked f.response f.is f.served.answer) f.hears).1)
+        still (ap (λ (m : SeenManager). m.holder) f.manager) (right_stays Seen (fetch_right s i c is known task work new heard clients_are basis place ptr plan at f))
 
     -- ---- a store
 
     module _ (basis : Basis) (formed : Formed) (at : task.step ≡ step.Store basis formed) (f : Stores old new C basis formed heard) where
+      manager_by : (b : Bool) → is_refused f.response ≡ b → new.manager ≡ (if b then held_by (other_holder c.client old.manager.holder) old.manager else old.manager)
+      manager_by b e = f.manager ∙ ap (λ (t : Bool). if t then held_by (other_holder c.client old.manager.holder) old.manager else old.manager) e
+
       -- it doesn't hold any longer
       refused_keeps : new.manager ≡ held_by (other_holder c.client old.manager.holder) old.manager → HolderWorks new
       refused_keeps holder = holder_all new each where
@@ -170,30 +152,17 @@ module _ {given : Given} {lines : List Outcome} {old : SeenNodes} (s : AreSound 
             let other = other_is c.client old.manager.holder h (sym (ap (λ (m : SeenManager). m.holder) holder) ∙ e) in
             works_elsewhere old new i c heard.client is clients_are h (λ own. other.1 (own ∙ sym number_is)) (holder_of old works h other.0)
 
-      done_quiet : f.response ≡ told.Done → TellsNothing C heard
-      done_quiet e =
-          let hears = subst (λ (r : Response). HearsStore C (step.Store basis formed) r heard) e f.hears in
-          subst (λ (h : Heard). TellsNothing C h) (sym hears)
-          (done_sound W Seen C S basis formed (ap step_of work ∙ at) old.servers.slots s.stands f.asked (head_is formed.plan ∙ f.is)).1
-
-      store_by : (lacks : Bool) → f.response ≡ (if lacks then told.Refused (fault.NoSlot (has old.servers f.asked.0).free) else told.Done) → HolderWorks new
-      store_by true e =
-          refused_keeps (f.manager ∙ ap (λ (r : Response). if is_refused r then held_by (other_holder c.client old.manager.holder) old.manager else old.manager) e)
-      store_by false e =
-          still
-          (ap (λ (m : SeenManager). m.holder) (f.manager ∙ ap (λ (r : Response). if is_refused r then held_by (other_holder c.client old.manager.holder) old.manager else old.manager) e))
-          (λ w. stays_at_work C heard.client (done_quiet e).same (ready_works w))
-
       store_keeps : HolderWorks new
-      store_keeps = store_by (lacks_slot (has old.servers f.asked.0) f.asked.1) (answer_is s i c is known task work basis formed at new heard clients_are f)
+      store_keeps = by (store_tells s i c is known task work new heard clients_are basis formed at f) where
+        by : ((is_refused f.response ≡ false) × TellsNothing C heard) ⊎ ((is_refused f.response ≡ true) × GivesUp C (NoSpace f.asked.0) heard) → HolderWorks new
+        by (inl done) = still (ap (λ (m : SeenManager). m.holder) (manager_by false done.0)) (quiet_stays done.1)
+        by (inr up) = refused_keeps (manager_by true up.0)
 
     -- ---- a commit
 
     commit_keeps : (sealed : Sealed) → Commits old new C sealed heard ⊎ IsBehindNow old new C sealed heard → HolderWorks new
     commit_keeps sealed (inl done) = none_holds new done.committed.holder
-    commit_keeps sealed (inr behind) =
-        still behind.same.holder
-        (λ w. stays_at_work C heard.client (subst (λ (h : Heard). TellsNothing C h) (sym behind.heard_is) (outdated_told C behind.fault)).same (ready_works w))
+    commit_keeps sealed (inr behind) = still behind.same.holder (quiet_stays (behind_tells s i c is known task work new heard clients_are sealed behind))
 
     -- ---- any of them
 

@@ -1,5 +1,6 @@
 -- Lemmas on the end of the nodes' steps.
 pub mod Totals
+pub mod Tells
 pub mod Replied
 pub mod Fewer
 pub mod Busy

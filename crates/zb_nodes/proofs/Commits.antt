@@ -73,17 +73,6 @@ behind_refuses refusal (why.Stale fid seen now) behind tells unblocked e =
 behind_refuses refusal (why.Worn field) behind tells unblocked e = absurd (cc e)
 behind_refuses refusal why.NoMemory behind tells unblocked e = absurd (cc e)
 
--- or the number that is worn
-worn_refuses : (refusal : Option CommitFault) (reason : Uncommitted) (halted : Halt) → TellsRefusal {T = List Reply} refusal (Err reason) → is_blocked reason ≡ false → Err halted ≡ behind_of reason
-    → OnWorn (λ field. refusal ≡ Some (fault.Worn field)) halted
-worn_refuses refusal (why.Blocked other) halted tells unblocked e = absurd (cc unblocked)
-worn_refuses refusal (why.Regen seen now) halted tells unblocked e = absurd (cc e)
-worn_refuses refusal (why.Stale fid seen now) halted tells unblocked e = absurd (cc e)
-worn_refuses refusal (why.Worn field) halted tells unblocked e =
-    let same : halt.Worn field ≡ halted = cc e in subst (OnWorn (λ f. refusal ≡ Some (fault.Worn f))) same tells
-worn_refuses refusal why.NoMemory halted tells unblocked e =
-    let same : halt.NoMemory ≡ halted = cc e in subst (OnWorn (λ f. refusal ≡ Some (fault.Worn f))) same tt
-
 module _ (m : SeenManager) (s : SeenServers) (c : SeenClient) (may : MayStep m s c) (batch : Batch) (pieces : List Piece) (generation : ℕ) (at : IsAtCommit c batch pieces generation) where
   abbrev W : Around
   W = met m s may.among.contents may.among.tree
@@ -131,26 +120,11 @@ module _ (m : SeenManager) (s : SeenServers) (c : SeenClient) (may : MayStep m s
     pub commit_answers : Answers c Told
     commit_answers = answers_at c at.task This at.is at.at Told counted
 
-    pub commit_does : (heard : Heard) → Hears c Told heard → other_holder c.client m.holder ≡ None → (n : SeenServers) → DoesNext m n c after n heard
-    commit_does heard hears unblocked n = λ clients others. does_at c at.task This at.is at.at (nodes clients m n) (nodes others after n) heard (record {
-      unblocked = unblocked;
-      servers = refl;
-      turn = inl (record {
-        right = sym same_refusal ∙ right;
-        replies = replies;
-        committed = subst (λ (b : Batch). IsCommitted b at.sealed.placed.pieces m after replies) at.batch_is (subst (λ (ps : List Piece). IsCommitted batch ps m after replies) at.pieces_are committed);
-        heard_is = hears_at c at.task This at.is at.at Told heard hears;
-      });
-    })
-
   -- ---- it is behind
 
   module _ (behind : CommitFault) (refused : Refusal ≡ Some behind) (outdated : IsOutdated behind) where
     abbrev Not : Answer
     Not = answer.NotCommitted behind
-
-    pub behind_answers : Answers c Not
-    behind_answers = answers_at c at.task This at.is at.at Not outdated
 
     pub behind_does : (after : SeenManager) (heard : Heard) → SameTables m after → Hears c Not heard → other_holder c.client m.holder ≡ None → (n : SeenServers) → DoesNext m n c after n heard
     behind_does after heard same hears unblocked n = λ clients others. does_at c at.task This at.is at.at (nodes clients m n) (nodes others after n) heard (record {
@@ -164,27 +138,4 @@ module _ (m : SeenManager) (s : SeenServers) (c : SeenClient) (may : MayStep m s
         same = same;
       });
     })
-
-  -- ---- it halts
-
-  pub commit_halts : (reason : Uncommitted) (halted : Halt) → TellsRefusal {T = List Reply} Refusal (Err reason) → is_blocked reason ≡ false → Err halted ≡ behind_of reason → OnWorn (CommitWears m c) halted
-  commit_halts reason halted tells unblocked e = by halted (worn_refuses Refusal reason halted tells unblocked e)
-    where
-      by : (h : Halt) → OnWorn (λ field. Refusal ≡ Some (fault.Worn field)) h → OnWorn (CommitWears m c) h
-      by halt.NoMemory refused = tt
-      by (halt.Worn field) refused = record {
-        batch = batch;
-        pieces = pieces;
-        generation = generation;
-        wish = wish_at c at.task This at.is at.at ∙ (λ i. wish.Turn (turn.Commit (sym at.batch_is i) (sym at.pieces_are i) (sym at.generation_is i)));
-        refusal = refused;
-      }
-
--- both answers are always taken
-pub commit_taken : (c : SeenClient) (replies : List Reply) (halted : Halt) → HasHalted c (answer.Committed replies) halted → ⊥
-commit_taken c replies halt.NoMemory why = why
-commit_taken c replies (halt.Worn field) why = why.1
-
-pub behind_taken : (c : SeenClient) (behind : CommitFault) (halted : Halt) → HasHalted c (answer.NotCommitted behind) halted → ⊥
-behind_taken c behind halt.NoMemory why = why
-behind_taken c behind (halt.Worn field) why = why.1
+    -- ---- it halts

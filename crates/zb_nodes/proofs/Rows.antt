@@ -52,25 +52,7 @@ up_has_memory told.Blank up = tt
 pub answer_has_memory : (has : Holdings) (generation : ℕ) (request : Request) (response : Response) → IsAnswer has generation request response → HasMemory response
 answer_has_memory has generation request response answer = up_has_memory response (is_up has generation request response answer)
 
--- what a machine knows of itself doesn't depend on its memory for the next step
-pub known_before : (c : SeenClient) → IsKnown (readied c) → IsKnown c
-known_before c k = record {
-  log = k.log;
-  given = k.given;
-  behind = k.behind;
-  numbered = k.numbered;
-  updates = k.updates;
-  in_doubt = k.in_doubt;
-  work = k.work;
-  aim = k.aim;
-}
-
 -- what is so anyway
 pub on_err_too : {T E P : Type 0} (r : Result T E) → P → OnErr r P
 on_err_too (Ok x) p = tt
 on_err_too (Err e) p = p
-
--- there is no error
-pub never_err : {T E : Type 0} (P : Type 0) {Q : E → Type 0} (r : Result T E) → ((e : E) → Q e → ⊥) → IfErr r Q → OnErr r P
-never_err P (Ok x) none q = tt
-never_err P (Err e) none q = absurd (none e q)

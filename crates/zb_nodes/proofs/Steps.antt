@@ -34,7 +34,6 @@ use Rattle.zb_nodes.specs.Halting.{HasCause, HasCauseAt, OnWorn, StepWears, Wear
 use Rattle.zb_nodes.specs.Moving.{CameTo, Carries, DoesNext, IsReadiedOnly, IsStill}
 use Rattle.zb_nodes.specs.Seen.{IfStill, IfTold, IsSound, blocker_at, blocker_of, kind_at}
 use Rattle.zb_nodes.specs.Wished.{blocker_in, holder_in, waits}
-use Rattle.zb_nodes.proofs.Wishes.{same_wish}
 
 -- ---- a client without work
 

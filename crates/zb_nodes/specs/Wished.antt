@@ -24,11 +24,6 @@ use Rattle.zb_client.specs.Wishing.{head_of, lookup_of}
 use Rattle.zb_nodes.specs.declared.answers.Moved.{Moved}
 use Rattle.zb_nodes.specs.declared.answers.Moved.TheVariants as moved
 
--- a call is to be taken
-pub record IsTaking (c : SeenClient) : Type 0 where
-  pub idle : c.task ≡ None
-  pub queued : 0 < length c.queue
-
 -- this is to be looked up
 pub record IsAtLookup (c : SeenClient) (lookup : Lookup) : Type 0 where
   pub task : Task

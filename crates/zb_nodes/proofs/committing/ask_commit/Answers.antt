@@ -1,8 +1,7 @@
 use Rattle.std.proofs.Common.{◌≡◌, ℕ, None, sym, ap, ◌∙◌, subst}
 use Rattle.std.proofs.lemmas.Result.{IfOk-weaker, err_from_is_err_and}
 use Rattle.zb_turns.specs.Turns.{other_holder}
-use Rattle.zb_nodes.proofs.Commits.{behind_answers, behind_does, behind_refuses, behind_taken, commit_answers, commit_does, commit_halts, commit_may_ask, commit_taken, unblocked_why}
-use Rattle.zb_nodes.proofs.Rows.{never_err}
+use Rattle.zb_nodes.proofs.Commits.{behind_does, behind_refuses, commit_answers, commit_may_ask, unblocked_why}
 use Rattle.zb_nodes.proofs.committing.ask_commit.Goals as goal
 
 pub commit-requires : goal.commit-requires

@@ -1,4 +1,4 @@
-use Rattle.std.proofs.Common.{◌≡◌, ◌+◌, ◌≤◌, refl, arith}
+use Rattle.std.proofs.Common.{◌+◌, refl, arith}
 use Rattle.zb_nodes.proofs.Firsts.{first_nodes, next_small, one_more}
 use Rattle.zb_nodes.proofs.nodes.Nodes.new.Goals as goal
 

@@ -1,4 +1,4 @@
-use Rattle.std.proofs.Common.{◌≡◌, ◌-◌, ◌+◌, sym, ap, ◌∙◌, subst, arith}
+use Rattle.std.proofs.Common.{◌≡◌, ◌-◌, sym, ap, subst, arith}
 use Rattle.zb_system.specs.Nodes.{IsClient, SeenNodes}
 use Rattle.zb_nodes.specs.contracts.nodes.Nodes.{the_view}
 use Rattle.zb_nodes.specs.Seen.{IsSound}

@@ -1,0 +1,7 @@
+-- Lemmas on the finish of nodes.
+pub mod Places
+pub mod Resting
+pub mod Emptied
+pub mod Said
+pub mod Sized
+pub mod Asked

@@ -1,0 +1,24 @@
+ghost use Rattle.std.specs.Prelude.{◌≡◌, ◌≢◌, ℕ, List, []};
+ghost use Rattle.zb_types.specs.declared.lines.Kind.TheVariants.{Idle};
+ghost use Rattle.zb_types.specs.declared.lines.Outcome.{Outcome};
+ghost use Rattle.zb_given.specs.Given.{Given};
+ghost use Rattle.zb_work.specs.declared.work.Aim.TheVariants.{Finish};
+ghost use Rattle.zb_work.specs.Steps.{new_task};
+ghost use Rattle.zb_client.specs.declared.steps.Told.{Told};
+ghost use Rattle.zb_client.specs.Seen.{SeenClient, kind_of, unready};
+ghost use Rattle.zb_system.specs.Nodes.{IsClient, SeenNodes, with_client};
+ghost use Rattle.zb_system.specs.Sound.{AreSound};
+ghost use Rattle.zb_system.specs.Steps.{HasStepped, IsReadied};
+ghost use Rattle.zb_finishing.specs.Clients.{Finishes, FinishesAt, IsIdleAt, KeepsNoneAt};
+
+/// An idle client finishes where it keeps nothing, and where it is flushed. That stays so, whichever client is flushed or makes
+/// a step, and whichever takes memory for one; and once the client is idle it keeps nothing.
+pub fn finishes_leave_nothing()
+    ensures rests { (c : SeenClient) → kind_of c ≡ Idle → c.kept ≡ [] → Finishes c }
+    ensures flushed { (n : SeenNodes) (i : ℕ) (c : SeenClient) → IsClient n i c → kind_of c ≡ Idle
+        → (j : ℕ) → (j ≢ i → FinishesAt n j) → FinishesAt (with_client n i (record (unready c) { task = new_task Finish })) j }
+    ensures step { (given : Given) (lines : List Outcome) (old new : SeenNodes) (i : ℕ) (told : Told) → AreSound given lines old → HasStepped old new i told
+        → (j : ℕ) → FinishesAt old j → FinishesAt new j }
+    ensures ready { (old new : SeenNodes) (i : ℕ) → IsReadied old new i → (j : ℕ) → FinishesAt old j → FinishesAt new j }
+    ensures ends { (n : SeenNodes) (i : ℕ) → FinishesAt n i → IsIdleAt n i → KeepsNoneAt n i }
+{}

@@ -1,0 +1,16 @@
+//! That a finish leaves the nodes of a system with nothing to do: each client that is flushed keeps nothing once it is idle, what
+//! steps tell is a call's line that may stand where nothing befalls the nodes, and where all clients are idle each call that
+//! was given has its lines and the tables show the tree of them. Definitions and their laws alone.
+#![tactic(auto)]
+
+mod calls;
+mod finishing;
+mod staying;
+mod telling;
+mod trees;
+
+pub use calls::{calls_are_given, idle_clients_are_done};
+pub use finishing::finishes_leave_nothing;
+pub use staying::{idle_clients_stay, others_stay, sizes_stay};
+pub use telling::{lines_lack_space_alone, steps_may_tell};
+pub use trees::tables_show_the_tree;

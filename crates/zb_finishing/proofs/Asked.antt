@@ -56,7 +56,7 @@ module _ (clients k : ℕ) (out : within 1 clients k ≡ false) where
   none_asked (item ∷ items) all = rw (other_line item.line all.0) (none_asked items all.1)
 
 -- a place of a list has an element
-there : (cs : List SeenClient) (i : ℕ) → i < length cs → (c : SeenClient) × (slice_get cs i ≡ Some c)
+pub there : (cs : List SeenClient) (i : ℕ) → i < length cs → (c : SeenClient) × (slice_get cs i ≡ Some c)
 there [] i lt = absurd (omega (arith, lt))
 there (c ∷ cs) zero lt = (c, refl)
 there (c ∷ cs) (suc i) lt = there cs i (omega (arith, lt))

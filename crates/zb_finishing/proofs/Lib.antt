@@ -5,3 +5,5 @@ pub mod Emptied
 pub mod Said
 pub mod Sized
 pub mod Asked
+pub mod Alone
+pub mod Reported

@@ -1,5 +1,5 @@
 -- What the lines say that the steps of clients tell where nothing befalls the nodes.
-use Rattle.std.specs.Prelude.{◌≡◌, ℕ, IsTrue}
+use Rattle.std.specs.Prelude.{◌≡◌, ◌≤◌, ℕ, length, IsTrue}
 use Rattle.zb_types.specs.declared.lines.Outcome.{Outcome}
 use Rattle.zb_types.specs.declared.lines.Outcome.TheVariants.{Call as OfCall}
 use Rattle.zb_types.specs.declared.lines.Said.{Said}
@@ -7,6 +7,7 @@ use Rattle.zb_types.specs.declared.lines.Said.TheVariants.{Reply as Replied, Buf
 use Rattle.zb_types.specs.declared.nodes.Cause.{Cause}
 use Rattle.zb_types.specs.declared.nodes.Cause.TheVariants.{NoSpace}
 use Rattle.zb_types.specs.Limits.{within}
+use Rattle.zb_given.specs.Given.{Given, calls_of}
 
 -- one of so many servers has no slot left
 abbrev pub IsNoSpace : ℕ → Cause → Type 0
@@ -26,3 +27,8 @@ MaySay servers (Unfinished cause) = IsNoSpace servers cause
 abbrev pub MayTell : ℕ → ℕ → Outcome → Type 0
 MayTell servers client (OfCall c number said) = (c ≡ client) × MaySay servers said
 MayTell servers client other = ⊥
+
+-- where it is of a call, it names one that was given to its client, from 1
+abbrev pub NamesGiven : Given → Outcome → Type 0
+NamesGiven given (OfCall client number said) = (1 ≤ number) × (number ≤ length (calls_of given client))
+NamesGiven given other = Unit {0}

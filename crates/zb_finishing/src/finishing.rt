@@ -1,7 +1,8 @@
-ghost use Rattle.std.specs.Prelude.{◌≡◌, ◌≢◌, ℕ, List, []};
+ghost use Rattle.std.specs.Prelude.{◌≡◌, ◌≢◌, ◌+◌, ℕ, List, [], None};
 ghost use Rattle.zb_types.specs.declared.lines.Kind.TheVariants.{Idle};
 ghost use Rattle.zb_types.specs.declared.lines.Outcome.{Outcome};
 ghost use Rattle.zb_given.specs.Given.{Given};
+ghost use Rattle.zb_turns.specs.Turns.{other_holder};
 ghost use Rattle.zb_work.specs.declared.work.Aim.TheVariants.{Finish};
 ghost use Rattle.zb_work.specs.Steps.{new_task};
 ghost use Rattle.zb_client.specs.declared.steps.Told.{Told};
@@ -9,6 +10,7 @@ ghost use Rattle.zb_client.specs.Seen.{SeenClient, kind_of, unready};
 ghost use Rattle.zb_system.specs.Nodes.{IsClient, SeenNodes, with_client};
 ghost use Rattle.zb_system.specs.Sound.{AreSound};
 ghost use Rattle.zb_system.specs.Steps.{HasStepped, IsReadied};
+ghost use Rattle.zb_ending.specs.Holding.{HolderWorks};
 ghost use Rattle.zb_finishing.specs.Clients.{Finishes, FinishesAt, IsIdleAt, KeepsNoneAt};
 
 /// An idle client finishes where it keeps nothing, and where it is flushed. That stays so, whichever client is flushed or makes
@@ -21,4 +23,9 @@ pub fn finishes_leave_nothing()
         → (j : ℕ) → FinishesAt old j → FinishesAt new j }
     ensures ready { (old new : SeenNodes) (i : ℕ) → IsReadied old new i → (j : ℕ) → FinishesAt old j → FinishesAt new j }
     ensures ends { (n : SeenNodes) (i : ℕ) → FinishesAt n i → IsIdleAt n i → KeepsNoneAt n i }
+{}
+
+/// A client that alone has work is free: no other one holds the file manager.
+pub fn alone_is_free()
+    ensures { (n : SeenNodes) (i : ℕ) → HolderWorks n → ((j : ℕ) → j ≢ i → IsIdleAt n j) → other_holder (i + 1) n.manager.holder ≡ None }
 {}

@@ -5,12 +5,14 @@
 
 mod calls;
 mod finishing;
+mod seeing;
 mod staying;
 mod telling;
 mod trees;
 
 pub use calls::{calls_are_given, idle_clients_are_done};
-pub use finishing::finishes_leave_nothing;
+pub use finishing::{alone_is_free, finishes_leave_nothing};
+pub use seeing::clients_are_seen;
 pub use staying::{idle_clients_stay, others_stay, sizes_stay};
-pub use telling::{lines_lack_space_alone, steps_may_tell};
+pub use telling::{lines_lack_space_alone, lines_may_stand, lines_name_calls, steps_may_tell};
 pub use trees::tables_show_the_tree;

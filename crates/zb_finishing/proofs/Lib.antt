@@ -7,3 +7,4 @@ pub mod Sized
 pub mod Asked
 pub mod Alone
 pub mod Reported
+pub mod Begun

@@ -11,7 +11,7 @@ mod telling;
 mod trees;
 
 pub use calls::{calls_are_given, idle_clients_are_done};
-pub use finishing::{alone_is_free, finishes_leave_nothing};
+pub use finishing::{alone_is_free, finishes_begin, finishes_leave_nothing};
 pub use seeing::clients_are_seen;
 pub use staying::{idle_clients_stay, others_stay, sizes_stay};
 pub use telling::{lines_lack_space_alone, lines_may_stand, lines_name_calls, steps_may_tell};

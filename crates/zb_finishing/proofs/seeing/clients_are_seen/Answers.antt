@@ -3,6 +3,7 @@ use Rattle.std.specs.Prelude.{[]}
 use Rattle.zb_types.specs.declared.lines.Kind.TheVariants.{Idle}
 use Rattle.zb_client.specs.Seen.{SeenClient, kind_of}
 use Rattle.zb_finishing.proofs.Alone.{each_place, idle_seen, keeps_none, seen_idle}
+use Rattle.zb_finishing.proofs.Resting.{idle_rests}
 use Rattle.zb_finishing.proofs.seeing.clients_are_seen.Goals as goal
 
 pub returns-clause-idle : goal.returns-clause-idle
@@ -10,6 +11,9 @@ returns-clause-idle c n i e = seen_idle n i e
 
 pub returns-clause-kind : goal.returns-clause-kind
 returns-clause-kind c n i lt idle = idle_seen n i lt idle
+
+pub returns-clause-rests : goal.returns-clause-rests
+returns-clause-rests c client idle = idle_rests client idle
 
 pub returns-clause-none_kept : goal.returns-clause-none_kept
 returns-clause-none_kept c n i none = keeps_none n i none

@@ -16,7 +16,8 @@ use Rattle.zb_client.specs.Seen.{SeenClient}
 use Rattle.zb_system.specs.Nodes.{IsClient, SeenNodes}
 use Rattle.zb_system.specs.Sound.{AreSound}
 use Rattle.zb_system.proofs.Resting.{has_last, has_lines}
-use Rattle.zb_finishing.specs.Giving.{AllIdle, AllKeepNone, AreCalls, IsCallWithin}
+use Rattle.zb_finishing.specs.Clients.{AllIdle, AllKeepNone}
+use Rattle.zb_finishing.specs.Giving.{AreCalls, IsCallWithin}
 
 abbrev Calls : ℕ → List Item → Type 0
 Calls clients items = AllByRecursion (λ item. IsCallWithin clients item.line) items

@@ -23,6 +23,14 @@ IsIdleAt n i = (c : SeenClient) → IsClient n i c → kind_of c ≡ Idle
 abbrev pub KeepsNoneAt : SeenNodes → ℕ → Type 0
 KeepsNoneAt n i = (c : SeenClient) → IsClient n i c → c.kept ≡ []
 
+-- each client is idle
+abbrev pub AllIdle : SeenNodes → Type 0
+AllIdle n = (i : ℕ) → IsIdleAt n i
+
+-- each keeps nothing
+abbrev pub AllKeepNone : SeenNodes → Type 0
+AllKeepNone n = (i : ℕ) → KeepsNoneAt n i
+
 -- the clients but this one are as they were
 abbrev pub OthersStay : SeenNodes → SeenNodes → ℕ → Type 0
 OthersStay old new i = (j : ℕ) → j ≢ i → slice_get new.clients j ≡ slice_get old.clients j

@@ -5,8 +5,6 @@ use Rattle.zb_types.specs.declared.lines.Line.{Line}
 use Rattle.zb_types.specs.declared.lines.Line.TheVariants.{Call as CallLine}
 use Rattle.zb_types.specs.Limits.{within}
 use Rattle.zb_given.specs.Given.{Given}
-use Rattle.zb_system.specs.Nodes.{SeenNodes}
-use Rattle.zb_finishing.specs.Clients.{IsIdleAt, KeepsNoneAt}
 
 -- a call of one of so many clients
 abbrev pub IsCallWithin : ℕ → Line → Type 0
@@ -16,11 +14,3 @@ IsCallWithin clients other = ⊥
 -- nothing was given but calls of these clients
 abbrev pub AreCalls : ℕ → Given → Type 0
 AreCalls clients given = AllByRecursion (λ item. IsCallWithin clients item.line) given.items
-
--- each client is idle
-abbrev pub AllIdle : SeenNodes → Type 0
-AllIdle n = (i : ℕ) → IsIdleAt n i
-
--- each keeps nothing
-abbrev pub AllKeepNone : SeenNodes → Type 0
-AllKeepNone n = (i : ℕ) → KeepsNoneAt n i

@@ -9,7 +9,8 @@ ghost use Rattle.zb_given.specs.Ends.{HaveLastLines, HaveLines, all_told};
 ghost use Rattle.zb_given.specs.Given.{Given, none_given, script_of, with_finish, with_item};
 ghost use Rattle.zb_system.specs.Nodes.{SeenNodes};
 ghost use Rattle.zb_system.specs.Sound.{AreSound};
-ghost use Rattle.zb_finishing.specs.Giving.{AllIdle, AllKeepNone, AreCalls};
+ghost use Rattle.zb_finishing.specs.Clients.{AllIdle, AllKeepNone};
+ghost use Rattle.zb_finishing.specs.Giving.{AreCalls};
 
 /// Calls alone were given: where nothing was, where one more call of one of the clients is, and where a finish begins.
 pub fn calls_are_given()

@@ -1,6 +1,6 @@
-//! That a finish leaves the nodes of a system with nothing to do: each client that is flushed keeps nothing once it is idle, what
-//! steps tell is a call's line that may stand where nothing befalls the nodes, and where all clients are idle each call that
-//! was given has its lines and the tables show the tree of them. Definitions and their laws alone.
+//! That a finish leaves the nodes of a system with nothing to do: a client that is flushed keeps nothing once it is idle; a step
+//! tells lines of its client's calls alone, of which none lacks more than space; and where all clients are idle each call that was
+//! given has its lines, and the tables show the tree of them. Definitions and their laws alone.
 #![tactic(auto)]
 
 mod calls;

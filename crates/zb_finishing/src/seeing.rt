@@ -2,8 +2,7 @@ ghost use Rattle.std.specs.Prelude.{◌≡◌, ◌<◌, ℕ, [], length, option_
 ghost use Rattle.zb_types.specs.declared.lines.Kind.TheVariants.{Idle};
 ghost use Rattle.zb_client.specs.Seen.{SeenClient, kind_of};
 ghost use Rattle.zb_system.specs.Nodes.{IsClient, SeenNodes};
-ghost use Rattle.zb_finishing.specs.Clients.{IsIdleAt, KeepsNoneAt};
-ghost use Rattle.zb_finishing.specs.Giving.{AllIdle, AllKeepNone};
+ghost use Rattle.zb_finishing.specs.Clients.{AllIdle, AllKeepNone, IsIdleAt, KeepsNoneAt};
 
 /// Which clients are idle is seen by the kinds of their next steps; one that is idle has no work, and no call in its queue. What is
 /// so with each client that is there is so with all.

@@ -12,5 +12,6 @@ mod restoring;
 pub use faults::{NodeFault, ReadFault};
 pub use formatting::format;
 pub use laws::{an_image_says_one_value, no_entry_names_a_stripe};
+pub use naming::first_naming;
 pub use platter::ManagerPlatter;
 pub use restoring::read;

@@ -26,8 +26,9 @@ fn names(entry: &Entry, log: LogId, stripe: u64) -> bool
     }
 }
 
-/// The number of the first entry that names a stripe, where the first of all has the number `first`.
-pub(crate) fn first_naming(entries: &[Entry], first: u64, log: LogId, stripe: u64) -> Option<u64>
+/// The number of the first entry that commits a piece in a stripe, where the first of all has the number `first`, at most
+/// 2^48.
+pub fn first_naming(entries: &[Entry], first: u64, log: LogId, stripe: u64) -> Option<u64>
     requires { first ≤ 2 ^ 48 }
     ensures { result ≡ first_of first log stripe entries.now }
 {

@@ -72,9 +72,25 @@ impl ManagerPlatter {
 
     /// The number of the next entry, from 1. At 2^48 none is added any more.
     pub fn number(&self) -> u64
-        ensures { result ≡ self.now.journal.number }
+        ensures number { result ≡ self.now.journal.number }
+        ensures next { result ≡ self.now.root.first + length self.now.entries }
     {
         self.journal.number
+    }
+
+    /// The number of the first entry behind the checkpoint, 1 to 2^48.
+    pub fn first(&self) -> u64
+        ensures first { result ≡ self.now.root.first }
+        ensures high { result ≤ 2 ^ 48 }
+    {
+        self.root.first
+    }
+
+    /// The entries since the checkpoint.
+    pub fn entries(&self) -> &[Entry]
+        ensures { result.now ≡ self.now.entries }
+    {
+        self.entries.as_slice()
     }
 
     /// Whether an entry with so many pieces has a place in the journal. One with at most 4,093 has after a checkpoint.

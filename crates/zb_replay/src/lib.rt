@@ -1,0 +1,12 @@
+//! The file manager's node: its tables in memory, each change of which is durable on platter 0 before it is answered.
+#![tactic(auto)]
+
+mod committing;
+mod entering;
+mod faults;
+mod node;
+mod retiring;
+
+pub use node::ManagerNode;
+pub use zb_manager::ReplyList;
+pub use zb_platter::NodeFault;

@@ -1,0 +1,5 @@
+pub mod Seen
+pub mod Wishing
+pub mod Answering
+pub mod Hearing
+pub mod Turned

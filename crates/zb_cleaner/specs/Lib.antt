@@ -3,3 +3,4 @@ pub mod Wishing
 pub mod Answering
 pub mod Hearing
 pub mod Turned
+pub mod Deltas

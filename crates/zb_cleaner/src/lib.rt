@@ -5,9 +5,14 @@
 mod cleaner;
 mod fitting;
 mod hearing;
+mod laws;
 mod steps;
 mod turned;
 mod wishing;
 
 pub use cleaner::Cleaner;
+pub use laws::{
+    blocks_are_what_stands_at_their_pointers, deltas_move_from_old_pointers,
+    strays_alone_are_deleted,
+};
 pub use steps::{Answer, Told, Turn, Wish};

@@ -1,0 +1,4 @@
+pub mod Asked
+pub mod Goings
+pub mod Moved
+pub mod Served

@@ -1,0 +1,12 @@
+pub mod Moving
+pub mod Copying
+pub mod Picking
+pub mod Seen
+pub mod Forming
+pub mod Making
+pub mod Sweeping
+pub mod Fitting
+pub mod Going
+pub mod Ahead
+pub mod Serving
+pub mod Turning

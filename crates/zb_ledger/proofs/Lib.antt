@@ -3,3 +3,4 @@ pub mod Small
 pub mod Giving
 pub mod Looking
 pub mod Telling
+pub mod Taking

@@ -1,5 +1,5 @@
 -- When a ledger keeps the history of what a world was given and told, and the laws of that.
-use Rattle.std.specs.Prelude.{◌≡◌, ◌≢◌, ◌⊎◌, ℕ, suc, ◌+◌, ◌≤◌, true, false, List, [], ◌∷◌, ◌++◌, length, map, Option, Some, None, ◌==◌, if◌then◌else◌}
+use Rattle.std.specs.Prelude.{◌≡◌, ◌≢◌, ◌⊎◌, ℕ, suc, ◌+◌, ◌≤◌, ◌<◌, true, false, List, [], ◌∷◌, ◌++◌, length, map, Option, Some, None, ◌==◌, if◌then◌else◌}
 use Rattle.std.specs.List.{AllByRecursion}
 use Rattle.zb_types.specs.declared.calls.Call.{Call}
 use Rattle.zb_types.specs.declared.lines.Line.{Line}
@@ -12,7 +12,7 @@ use Rattle.zb_given.specs.Given.{Given, none_given, with_item, with_finish, scri
 use Rattle.zb_given.specs.Calls.{LookedUp}
 use Rattle.zb_given.specs.Telling.{seen_by, IsOfLookup, AreOfLookups, IsOfNow}
 use Rattle.zb_given.specs.Ends.{is_call}
-use Rattle.zb_ledger.specs.Seen.{SeenLedger, count_of, looked_of, call_at, first_ledger, called, looked_now, told, told_all}
+use Rattle.zb_ledger.specs.Seen.{SeenLedger, count_of, looked_of, call_at, first_ledger, called, taken_back, looked_now, told, told_all}
 
 -- the call that waits under a client and a number: it was given, and has no final line
 abbrev pub waits : Given → List Outcome → ℕ → ℕ → Option Call
@@ -64,6 +64,10 @@ KeepsFirst = (clients : ℕ) → KeepsHistory none_given [] (λ i. None) (first_
 abbrev pub KeepsCall : Type 0
 KeepsCall = (given : Given) (lines : List Outcome) (at_work : ℕ → Option LookedUp) (ledger : SeenLedger) (client : ℕ) (call : Call) → client ≤ ledger.clients → FitGiven given lines → KeepsHistory given lines at_work ledger
     → KeepsHistory (with_item given (CallLine true client call) (length lines)) lines at_work (called ledger client call)
+
+-- a call that is given and taken back leaves the ledger as it was, where its number is new
+abbrev pub TakesBack : Type 0
+TakesBack = (ledger : SeenLedger) (client : ℕ) (call : Call) → client < length ledger.counts → call_at ledger.waiting client (suc (count_of ledger client)) ≡ None → taken_back (called ledger client call) client ≡ ledger
 
 -- a job or an event is given
 abbrev pub KeepsOther : Type 0

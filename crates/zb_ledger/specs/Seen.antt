@@ -65,6 +65,13 @@ called ledger client call = record ledger {
   waiting = insert_entry key_cmp ledger.waiting (client, suc (count_of ledger client)) call;
 }
 
+-- its last call is taken back, which waits
+abbrev pub taken_back : SeenLedger → ℕ → SeenLedger
+taken_back ledger client = record ledger {
+  counts = slice_set ledger.counts client (count_of ledger client - 1);
+  waiting = without_call ledger.waiting client (count_of ledger client);
+}
+
 -- its read is looked up where all updates stand that were answered
 abbrev pub looked_now : SeenLedger → ℕ → SeenLedger
 looked_now ledger client = record ledger { looked = slice_set ledger.looked client (length ledger.updates) }

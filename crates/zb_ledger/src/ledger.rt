@@ -1,7 +1,7 @@
 ghost use Rattle.std.specs.Prelude.{◌≡◌, ◌+◌, ◌-◌, ◌<◌, ◌≤◌, ◌∷◌, ◌++◌, [], suc, IfOk, OnOk, OnErr, vec_len, vec_capacity};
 ghost use Rattle.std.specs.Option.{option_copied};
 ghost use Rattle.zb_claims.specs.Points.{did_if};
-ghost use Rattle.zb_ledger.specs.Seen.{count_of, looked_of, call_at, ended, replied, saw_if, first_ledger, called, looked_now, said_of, told};
+ghost use Rattle.zb_ledger.specs.Seen.{count_of, looked_of, call_at, ended, replied, saw_if, first_ledger, called, taken_back, looked_now, said_of, told};
 
 use std::alloc::Global;
 use std::collections::BTreeMap;
@@ -130,6 +130,19 @@ impl Ledger {
         self.waiting.insert((client, number), call)?;
         self.counts[place] = number;
         Ok(number)
+    }
+
+    /// Takes back the last call that a client was given, which waits. A call that is given and taken back leaves the ledger
+    /// as it was. Takes no memory.
+    pub fn take_back(&mut self, client: u8)
+        requires own { client ≤ self.old.clients }
+        requires some { 0 < count_of self.old client }
+        ensures { self.new ≡ taken_back self.old client }
+    {
+        let place = usize::from(client);
+        let number = self.counts[place];
+        self.end(client, number);
+        self.counts[place] = number - 1;
     }
 
     /// A client's read is looked up now: it sees all updates that were answered.

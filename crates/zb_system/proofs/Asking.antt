@@ -1,6 +1,6 @@
 -- A client reads a block with a request.
 use Rattle.std.proofs.Common.{◌≡◌, ◌≢◌, ℕ, ◌≤◌, true, false, Bool, List, [], ◌∷◌, Option, Some, None, refl, sym, ap, ◌∙◌, subst, inl, inr}
-use Rattle.std.specs.Prelude.{◌⊎◌, ◌==◌, if◌then◌else◌, slice_set}
+use Rattle.std.specs.Prelude.{◌⊎◌, ◌==◌, if◌then◌else◌, is_some, slice_set}
 use Rattle.std.proofs.lemmas.Bool.{cases_eq, eq-eqb}
 use Rattle.zb_types.specs.Tree.{Tree}
 use Rattle.zb_types.specs.declared.ids.FragId.{FragId}
@@ -30,7 +30,7 @@ use Rattle.zb_work.specs.declared.work.Step.{Step}
 use Rattle.zb_work.specs.declared.work.Step.TheVariants as step
 use Rattle.zb_work.specs.declared.work.Task.{Task}
 use Rattle.zb_work.specs.Steps.{first_members, step_of}
-use Rattle.zb_client.specs.Seen.{SeenClient}
+use Rattle.zb_client.specs.Seen.{SeenClient, kind_of}
 use Rattle.zb_client.specs.Telling.{Heard}
 use Rattle.zb_client_laws.specs.Around.{Around}
 use Rattle.zb_client_laws.specs.Current.{FirstIsCurrent, IsReading, WorkIsCurrent}
@@ -45,6 +45,7 @@ use Rattle.zb_system.specs.Sound.{AreSound, ServersAreSound, StaysSound}
 use Rattle.zb_system.specs.Steps.{Fetches, IsServed}
 use Rattle.zb_system.proofs.AnyTree.{any_tree}
 use Rattle.zb_system.proofs.FirstReads.{Looked, Reads, looked_still, looked_up, none_kept}
+use Rattle.zb_system.proofs.ReadsLeft.{as_looked, none_left, silent}
 use Rattle.zb_system.proofs.Quiet.{StandsStill, World, answer_stays, at as read_at, known_ready, looked_ready, quiet_stays, sound_ready}
 
 -- what was looked up is of the members
@@ -170,6 +171,7 @@ module _ {given : Given} {lines : List Outcome} {old : SeenNodes} (s : AreSound 
     silent_so quiet false e =
         quiet_stays s i c is new same heard.client clients_are quiet.same None e
         (any_tree W Seen (tree_for given lines None) heard.client e right.0) (inr tt)
+        (none_left (kind_of c) (s.reads i) lines [] (silent (kind_of c) (s.reads i)))
     silent_so quiet true e =
         let none : c.kept ≡ [] = sym quiet.same.kept ∙ none_kept heard.client.kept (step_of heard.client.task) e in
         let reads : is_reading (readied c) ≡ true = ap (λ (k : List Numbered). reads_with k (step_of c.task)) none ∙ ap (reads_with []) step_is in
@@ -178,6 +180,7 @@ module _ {given : Given} {lines : List Outcome} {old : SeenNodes} (s : AreSound 
         (subst (HasLookedUp given lines heard.client) (sym l.is) (looked_still given lines (readied c) heard.client l.one quiet.same e l.first))
         right.0
         (inl refl)
+        (as_looked given lines c (s.reads i) (s.calls.looked i c is))
 
     -- the read is answered
     module _ (d : SeenClient) (ans : AnswersRead Seen d (readied c) heard) where
@@ -206,7 +209,8 @@ module _ {given : Given} {lines : List Outcome} {old : SeenNodes} (s : AreSound 
           (ap (tree_for given lines) l.is ∙ ap (λ (x : LookedUp). tree_for given lines (Some x)) one_is)
           (subst (λ (x : Option LookedUp). is_number x r.read.number ≡ true) (sym l.is) (same_number l.one.number r.read.number first.0))
           refl
-          Seen right.0 where
+          Seen right.0
+          (λ e some. ap is_some l.is) where
             same_number : (a b : ℕ) → a ≡ b → (a == b) ≡ true
             same_number a b e = eq-eqb a b e
 

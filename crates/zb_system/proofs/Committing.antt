@@ -1,5 +1,5 @@
 -- A client asks for the commit of its batch.
-use Rattle.std.proofs.Common.{◌≡◌, ◌≢◌, ℕ, ◌+◌, ◌≤◌, true, false, Bool, List, ◌++◌, length, Option, Some, None, refl, sym, ap, ◌∙◌, subst, inl, inr, arith}
+use Rattle.std.proofs.Common.{◌≡◌, ◌≢◌, ℕ, ◌+◌, ◌≤◌, true, false, Bool, List, [], ◌++◌, length, Option, Some, None, refl, sym, ap, ◌∙◌, subst, inl, inr, arith}
 use Rattle.std.specs.Prelude.{◌⊎◌, if◌then◌else◌, nat_le, nat_lt, slice_set, Result, Ok, Err}
 use Rattle.std.proofs.lemmas.Bool.Decides.{nat_tests}
 use Rattle.zb_types.specs.Apply.{is_update}
@@ -30,7 +30,7 @@ use Rattle.zb_work.specs.declared.work.Step.TheVariants as step
 use Rattle.zb_work.specs.declared.work.Task.{Task}
 use Rattle.zb_work.specs.Steps.{aim_of, next_task, step_of}
 use Rattle.zb_client.specs.Hearing.{commits, hears_outdated, tried}
-use Rattle.zb_client.specs.Seen.{SeenClient}
+use Rattle.zb_client.specs.Seen.{SeenClient, kind_of}
 use Rattle.zb_client.specs.Telling.{Heard}
 use Rattle.zb_client_laws.specs.Around.{Around, IsAround}
 use Rattle.zb_client_laws.specs.Effects.{TellsNothing, after_commit}
@@ -45,13 +45,14 @@ use Rattle.zb_line_laws.proofs.Replying.{replied_fits}
 use Rattle.zb_progress.specs.Fresh.{RoseBy}
 use Rattle.zb_progress.proofs.Rising.{commit-rises}
 use Rattle.zb_system.specs.Nodes.{IsClient, SeenNodes, readied}
-use Rattle.zb_system.specs.Looking.{is_reading, reads_with, tree_for}
+use Rattle.zb_system.specs.Looking.{is_fetch, is_reading, reads_with, tree_for}
 use Rattle.zb_system.specs.Sound.{AreSound, ServersAreSound, StaysSound}
 use Rattle.zb_system.specs.Steps.{AsksCommit, Commits, IsBehindNow}
 use Rattle.zb_system.proofs.AnyTree.{any_tree}
 use Rattle.zb_system.proofs.FirstReads.{not_fetch}
 use Rattle.zb_system.proofs.Inside.{still}
 use Rattle.zb_system.proofs.Joining.{elsewhere, joined}
+use Rattle.zb_system.proofs.ReadsLeft.{none_left, not_reading, silent}
 use Rattle.zb_system.proofs.Quiet.{World, calls_ready, known_ready, own_of, quiet_stays, sound_ready, with_parts}
 use Rattle.zb_system.proofs.Storing.{step_rests}
 use Rattle.zb_system.proofs.Telling.{replies_look}
@@ -129,7 +130,8 @@ module _ {given : Given} {lines : List Outcome} {old : SeenNodes} (s : AreSound 
         (quiet_stays s i c is new (still old new behind.same.tables behind.same.sizes servers s.servers) heard.client clients_are quiet.same None not_then
         (any_tree W Seen (tree_for given lines None) heard.client not_then
         (subst (λ (h : Heard). ClientIsSound W Seen h.client) (sym behind.heard_is) (outdated_sound W Seen C S basis sealed step_is behind.fault)))
-        (inr tt))
+        (inr tt)
+        (none_left (kind_of c) (s.reads i) lines [] (silent (kind_of c) (s.reads i))))
 
   -- ---- it is committed
   module _ (done : Commits old new C sealed heard) (servers : new.servers ≡ old.servers) where
@@ -242,6 +244,7 @@ module _ {given : Given} {lines : List Outcome} {old : SeenNodes} (s : AreSound 
         (subst (λ (x : Heard). AreOfLookups given lines (s.reads i) (lines_in x.told)) (sym heard_is)
         (replies_look given c.client c.kept Shelf_after.replies lines (s.reads i) h.kept (each-of (λ k. is_update k.call ≡ true) c.kept known.updates)))
         (inr tt)
+        (none_left (kind_of c) (s.reads i) lines (lines_in heard.told) (not_reading c (lines_in heard.told) (s.reads i) (ap is_fetch step_is)))
 
   pub commit_turn_stays : AsksCommit old new C sealed heard → StaysSound s new i (lines_in heard.told)
   commit_turn_stays asks = by asks.turn where

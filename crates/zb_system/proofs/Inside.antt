@@ -16,7 +16,7 @@ use Rattle.zb_work.specs.declared.work.Aim.TheVariants.{Read, Update}
 use Rattle.zb_work.specs.declared.work.Step.TheVariants.{Lookup}
 use Rattle.zb_work.specs.Steps.{new_task, step_of}
 use Rattle.zb_client.specs.Hearing.{keeps, takes_first}
-use Rattle.zb_client.specs.Seen.{SeenClient}
+use Rattle.zb_client.specs.Seen.{SeenClient, kind_of}
 use Rattle.zb_client.specs.Telling.{Heard, line, silent, tells}
 use Rattle.zb_client_laws.specs.Sound.{ClientIsSound}
 use Rattle.zb_client_laws.proofs.Moves.{ready_sound, taken_sound}
@@ -29,6 +29,7 @@ use Rattle.zb_system.specs.Sound.{AreSound, ServersAreSound, StaysSound}
 use Rattle.zb_system.specs.Steps.{IsReadied, TakesCall}
 use Rattle.zb_system.proofs.AnyTree.{any_tree}
 use Rattle.zb_system.proofs.FirstReads.{not_fetch, same_looked}
+use Rattle.zb_system.proofs.ReadsLeft.{as_looked, none_left, not_reading, reads_step}
 use Rattle.zb_system.proofs.Quiet.{StandsStill, World, calls_ready, own_of, quiet_stays, sound_ready, tells_lines}
 use Rattle.zb_system.proofs.Telling.{IsSilentOn, taken_silent, tree_same}
 
@@ -63,6 +64,7 @@ module _ {given : Given} {lines : List Outcome} {old : SeenNodes} (s : AreSound 
       (s.reads i) (same_looked given lines r.client (record r.client { is_ready = r.ready }) (s.reads i) (record { client = refl; kept = refl; queue = refl; aim = refl }) refl (s.calls.looked i r.client r.is))
       (ready_sound (World s i r.client r.is) (tree_for given lines (s.reads i)) r.client (s.clients i r.client r.is).0 r.ready)
       (inl refl)
+      (as_looked given lines r.client (s.reads i) (s.calls.looked i r.client r.is))
 
   -- a call is taken
   module _ (c : SeenClient) (is : IsClient old i c) (none : c.task ≡ None) (heard : Heard) (clients_are : new.clients ≡ slice_set old.clients i heard.client) (takes : TakesCall old new (readied c) heard) where
@@ -113,3 +115,4 @@ module _ {given : Given} {lines : List Outcome} {old : SeenNodes} (s : AreSound 
         (taken_sound (World s i c is) (tree_for given lines (s.reads i)) (readied c) (sound_ready s i c is) none)))
         (quiet.lookups lines (s.reads i))
         (inr tt)
+        (none_left (kind_of c) (s.reads i) lines (lines_in heard.told) (not_reading c (lines_in heard.told) (s.reads i) (ap reads_step none)))

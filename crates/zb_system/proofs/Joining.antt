@@ -3,6 +3,7 @@ use Rattle.std.proofs.Common.{◌≡◌, ◌≢◌, ℕ, zero, suc, ◌+◌, tru
 use Rattle.std.specs.Prelude.{◌⊎◌, ◌==◌, if◌then◌else◌, slice_get, slice_set}
 use Rattle.std.specs.List.{AllByRecursion, list_any}
 use Rattle.std.proofs.lemmas.Bool.{eq-eqb, ne_eqb}
+use Rattle.std.proofs.lemmas.Option.{same_Some}
 use Rattle.zb_types.specs.Tree.{Tree}
 use Rattle.zb_types.specs.declared.lines.Outcome.{Outcome}
 use Rattle.zb_claims.specs.Points.{is_of_client, tree_at}
@@ -10,7 +11,7 @@ use Rattle.zb_given.specs.Given.{Given, script_of}
 use Rattle.zb_given.specs.Calls.{LookedUp}
 use Rattle.zb_given.specs.Telling.{AreOfLookups, IsOfNow}
 use Rattle.zb_tables.specs.Tables.{Contents}
-use Rattle.zb_client.specs.Seen.{SeenClient}
+use Rattle.zb_client.specs.Seen.{SeenClient, kind_of}
 use Rattle.zb_client.specs.Telling.{Heard}
 use Rattle.zb_client_laws.specs.Around.{Around, IsAround}
 use Rattle.zb_client_laws.specs.Sound.{ClientIsSound, ClientsAreSound}
@@ -20,7 +21,7 @@ use Rattle.zb_line_laws.proofs.Staying.{beside}
 use Rattle.zb_progress.specs.Fresh.{RoseBy}
 use Rattle.zb_system.specs.Nodes.{IsClient, SeenNodes, around}
 use Rattle.zb_system.specs.Looking.{HasLookedUp, tree_for}
-use Rattle.zb_system.specs.Sound.{AreSound, ClientsHaveCalls, ServersAreSound, StaysSound}
+use Rattle.zb_system.specs.Sound.{AreSound, ClientsHaveCalls, ReadStays, ServersAreSound, StaysSound}
 use Rattle.zb_system.proofs.AnyTree.{any_tree}
 use Rattle.zb_system.proofs.Changed.{each_place}
 use Rattle.zb_system.proofs.FirstReads.{looked_over, seen_same}
@@ -129,13 +130,17 @@ module _ {given : Given} {lines : List Outcome} {old : SeenNodes} (s : AreSound 
         rose = rose;
       }
 
-      pub joined : AreOfLookups given lines (s.reads i) More → ((More ≡ []) × (read ≡ s.reads i)) ⊎ IsOfNow read (lines ++ More) → StaysSound s new i More
-      joined replies looks = record {
+      pub joined : AreOfLookups given lines (s.reads i) More → ((More ≡ []) × (read ≡ s.reads i)) ⊎ IsOfNow read (lines ++ More)
+          → ReadStays (kind_of c) (s.reads i) read lines More → StaysSound s new i More
+      joined replies looks stays = record {
         sound = sound;
         tells = record {
           own = own_lines;
           reads = replies;
           looks = subst (λ (r : Option LookedUp). ((More ≡ []) × (r ≡ s.reads i)) ⊎ IsOfNow r (lines ++ More)) (sym (at_one s.reads i read)) looks;
         };
+        read = λ d at_i.
+            subst (λ (x : SeenClient). ReadStays (kind_of x) (s.reads i) (Reads i) lines More) (same_Some c d (sym is ∙ at_i))
+            (subst (λ (r : Option LookedUp). ReadStays (kind_of c) (s.reads i) r lines More) (sym (at_one s.reads i read)) stays);
         others = at_other s.reads i read;
       }

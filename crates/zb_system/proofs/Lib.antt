@@ -6,6 +6,7 @@ pub mod Attached
 pub mod Starting
 pub mod Giving
 pub mod FirstReads
+pub mod ReadsLeft
 pub mod Joining
 pub mod Quiet
 pub mod Inside

@@ -1,8 +1,9 @@
 -- A client looks files or names up.
-use Rattle.std.proofs.Common.{◌≡◌, ℕ, true, false, Bool, List, [], length, Option, Some, None, refl, sym, ap, ◌∙◌, subst, inl, inr}
+use Rattle.std.proofs.Common.{◌≡◌, ℕ, true, false, Bool, List, [], append-nil, length, Option, Some, None, refl, sym, ap, ◌∙◌, subst, inl, inr}
 use Rattle.std.specs.Prelude.{if◌then◌else◌, slice_set}
 use Rattle.zb_types.specs.Apply.{reply_to}
 use Rattle.zb_types.specs.Tree.{Tree}
+use Rattle.zb_types.specs.declared.lines.Kind.TheVariants.{Lookup as LookupKind}
 use Rattle.zb_types.specs.declared.lines.Outcome.{Outcome}
 use Rattle.zb_claims.specs.Points.{tree_at}
 use Rattle.zb_given.specs.Given.{Given, script_of}
@@ -12,10 +13,10 @@ use Rattle.zb_manager.specs.Managers.{SeenManager}
 use Rattle.zb_manager.specs.Seen.{held_by}
 use Rattle.zb_work.specs.declared.work.Step.TheVariants.{Lookup}
 use Rattle.zb_work.specs.declared.work.Task.{Task}
-use Rattle.zb_work.specs.Steps.{aim_of, step_of}
+use Rattle.zb_work.specs.Steps.{aim_of, kind_of_step, step_of}
 use Rattle.zb_client.specs.declared.steps.Lookup.{Lookup as Wanted}
 use Rattle.zb_client.specs.declared.steps.Lookup.TheVariants.{Files, Names}
-use Rattle.zb_client.specs.Seen.{SeenClient}
+use Rattle.zb_client.specs.Seen.{SeenClient, kind_of, kind_of_task}
 use Rattle.zb_client.specs.Telling.{Heard}
 use Rattle.zb_client.specs.Wishing.{lookup_of}
 use Rattle.zb_client_laws.specs.Around.{Around}
@@ -25,11 +26,12 @@ use Rattle.zb_client_laws.specs.Sound.{ClientIsSound}
 use Rattle.zb_client_laws.proofs.Looking.{found_sound, named_sound}
 use Rattle.zb_line_laws.specs.Calls.{lines_in}
 use Rattle.zb_system.specs.Nodes.{IsClient, SeenNodes, readied}
-use Rattle.zb_system.specs.Looking.{FirstIsLookedUp, is_reading, reads_with, tree_for}
+use Rattle.zb_system.specs.Looking.{FirstIsLookedUp, is_fetch, is_reading, reads_with, tree_for}
 use Rattle.zb_system.specs.Sound.{AreSound, StaysSound}
 use Rattle.zb_system.specs.Steps.{LooksUp}
 use Rattle.zb_system.proofs.Inside.{still}
 use Rattle.zb_system.proofs.FirstReads.{Reads, first_read, looked_now, looked_still, none_kept, not_fetch, not_looked, seen_now}
+use Rattle.zb_system.proofs.ReadsLeft.{none_left, not_reading, silent}
 use Rattle.zb_system.proofs.Quiet.{StandsStill, Tree_now, World, answer_stays, at as read_at, calls, calls_ready, known_ready, looked_ready, quiet_stays, sound_ready}
 
 module _ {given : Given} {lines : List Outcome} {old : SeenNodes} (s : AreSound given lines old) (i : ℕ) (c : SeenClient) (is : IsClient old i c) (known : IsKnown c)
@@ -40,13 +42,16 @@ module _ {given : Given} {lines : List Outcome} {old : SeenNodes} (s : AreSound 
   step_is : step_of c.task ≡ Lookup
   step_is = ap step_of work ∙ at_lookup
 
+  kind_is : kind_of c ≡ LookupKind
+  kind_is = ap (λ (t : Option Task). kind_of_task t c.queue) work ∙ ap kind_of_step at_lookup
+
   unread : s.reads i ≡ None
   unread = not_looked given lines (readied c) (s.reads i) (looked_ready s i c is) (ap (reads_with c.kept) step_is ∙ not_fetch c.kept Lookup refl)
 
   -- what a lookup leaves is of the tree of now
   module _ (same : StandsStill old new) (right : ClientIsSound W (Tree_now s i c is) heard.client × TellsRight (Tree_now s i c is) (readied c) heard) where
     silent_so : TellsNothing (readied c) heard → (reading : Bool) → is_reading heard.client ≡ reading → StaysSound s new i []
-    silent_so quiet false e = quiet_stays s i c is new same heard.client clients_are quiet.same None e right.0 (inr tt)
+    silent_so quiet false e = quiet_stays s i c is new same heard.client clients_are quiet.same None e right.0 (inr tt) (none_left (kind_of c) (s.reads i) lines [] (silent (kind_of c) (s.reads i)))
     silent_so quiet true e =
         let none : c.kept ≡ [] = sym quiet.same.kept ∙ none_kept heard.client.kept (step_of heard.client.task) e in
         let r : Reads given lines (readied c) = first_read given lines (readied c) task.aim (ap aim_of work) none known.aim in
@@ -56,6 +61,7 @@ module _ {given : Given} {lines : List Outcome} {old : SeenNodes} (s : AreSound 
         (looked_still given lines (readied c) heard.client read quiet.same e first)
         (subst (λ (t : Tree). ClientIsSound W t heard.client) (sym (seen_now given lines r.read.number)) right.0)
         (inr refl)
+        (record { looked = λ e. ap length (sym (append-nil lines)); goes_on = λ ne. absurd (ne kind_is); answers = silent (kind_of c) (s.reads i) })
 
     pub now_stays : StaysSound s new i (lines_in heard.told)
     now_stays = by right.1 where
@@ -70,6 +76,7 @@ module _ {given : Given} {lines : List Outcome} {old : SeenNodes} (s : AreSound 
           (subst (λ (x : Option LookedUp). is_number x r.read.number ≡ true) (sym unread) refl)
           (subst (λ (x : Option LookedUp). tree_at (script_of given) lines ≡ tree_at (script_of given) (seen_by x lines)) (sym unread) refl)
           (Tree_now s i c is) right.0
+          (not_reading c (lines_in heard.told) (s.reads i) (ap is_fetch step_is))
 
   held_same : (hold : Bool) → (if hold then held_by (Some c.client) old.manager else old.manager).tables ≡ old.manager.tables
   held_same true = refl

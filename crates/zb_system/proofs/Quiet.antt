@@ -1,9 +1,10 @@
 -- A step of a client that leaves servers and tables as they stand.
-use Rattle.std.proofs.Common.{◌≡◌, ℕ, true, false, List, [], ◌∷◌, ◌++◌, append-nil, Option, Some, None, refl, sym, ap, ◌∙◌, subst, inl, inr}
-use Rattle.std.specs.Prelude.{◌⊎◌, ◌==◌, slice_set}
+use Rattle.std.proofs.Common.{◌≡◌, ◌≢◌, ℕ, true, false, List, [], ◌∷◌, ◌++◌, append-nil, Option, Some, None, refl, sym, ap, ◌∙◌, subst, inl, inr}
+use Rattle.std.specs.Prelude.{◌⊎◌, ◌==◌, is_some, slice_set}
 use Rattle.std.specs.List.{AllByRecursion, list_any}
 use Rattle.zb_types.specs.Apply.{reply_to}
 use Rattle.zb_types.specs.Tree.{Tree}
+use Rattle.zb_types.specs.declared.lines.Kind.TheVariants.{Fetch}
 use Rattle.zb_types.specs.declared.lines.Outcome.{Outcome}
 use Rattle.zb_types.specs.declared.lines.Said.TheVariants as said
 use Rattle.zb_holding.specs.Holding.{Maps}
@@ -21,7 +22,7 @@ use Rattle.zb_work.specs.declared.work.Step.TheVariants.{Lookup}
 use Rattle.zb_work.specs.Fitting.{AimFits}
 use Rattle.zb_work.specs.Steps.{aim_of}
 use Rattle.zb_client.specs.declared.steps.Told.TheVariants.{Nothing}
-use Rattle.zb_client.specs.Seen.{SeenClient}
+use Rattle.zb_client.specs.Seen.{SeenClient, kind_of}
 use Rattle.zb_client.specs.Telling.{Heard, answers_first}
 use Rattle.zb_client_laws.specs.Around.{Around, IsAround}
 use Rattle.zb_client_laws.specs.Effects.{AnswersRead, IsReplyIn, SameCalls}
@@ -35,7 +36,8 @@ use Rattle.zb_line_laws.proofs.Staying.{quiet_step}
 use Rattle.zb_progress.specs.Fresh.{RoseBy}
 use Rattle.zb_system.specs.Nodes.{IsClient, SeenNodes, around, readied}
 use Rattle.zb_system.specs.Looking.{HasLookedUp, is_reading, tree_for}
-use Rattle.zb_system.specs.Sound.{AreSound, ServersAreSound, StaysSound}
+use Rattle.zb_system.specs.Sound.{AreSound, ReadStays, ServersAreSound, StaysSound}
+use Rattle.zb_system.proofs.ReadsLeft.{none_left}
 use Rattle.zb_system.proofs.AnyTree.{any_tree}
 use Rattle.zb_system.proofs.Joining.{joined}
 use Rattle.zb_system.proofs.FirstReads.{Reads, first_read, is_given, not_fetch, same_looked}
@@ -96,7 +98,8 @@ module _ {given : Given} {lines : List Outcome} {old : SeenNodes} (s : AreSound 
         → (read : Option LookedUp) → HasLookedUp given (lines ++ lines_in heard.told) heard.client read
         → ClientIsSound World (tree_for given (lines ++ lines_in heard.told) read) heard.client
         → AreOfLookups given lines (s.reads i) (lines_in heard.told)
-        → ((lines_in heard.told ≡ []) × (read ≡ s.reads i)) ⊎ IsOfNow read (lines ++ lines_in heard.told) → StaysSound s new i (lines_in heard.told)
+        → ((lines_in heard.told ≡ []) × (read ≡ s.reads i)) ⊎ IsOfNow read (lines ++ lines_in heard.told)
+        → ReadStays (kind_of c) (s.reads i) read lines (lines_in heard.told) → StaysSound s new i (lines_in heard.told)
     tells_lines heard clients_are same owns tree fits read looked own =
         joined s new i c is heard clients_are same owns World s.contents
         (same_around old new s.contents Tree_now (tree_at (script_of given) (lines ++ lines_in heard.told)) still tree)
@@ -107,8 +110,8 @@ module _ {given : Given} {lines : List Outcome} {old : SeenNodes} (s : AreSound 
       as_before : lines ++ [] ≡ lines
       as_before = append-nil lines
 
-      pub quiet_stays : (read : Option LookedUp) → HasLookedUp given lines d read → ClientIsSound World (tree_for given lines read) d → (read ≡ s.reads i) ⊎ IsOfNow read lines → StaysSound s new i []
-      quiet_stays read looked own looks =
+      pub quiet_stays : (read : Option LookedUp) → HasLookedUp given lines d read → ClientIsSound World (tree_for given lines read) d → (read ≡ s.reads i) ⊎ IsOfNow read lines → ReadStays (kind_of c) (s.reads i) read lines [] → StaysSound s new i []
+      quiet_stays read looked own looks stays =
           tells_lines (record { client = d; told = Nothing }) clients_are same.client (record { own = tt; others = λ other ne. refl })
           (ap (tree_at (script_of given)) as_before)
           (subst (FitGiven given) (sym as_before) s.told.fit, subst (λ (ls : List Outcome). HasItsCalls given ls d) (sym as_before) (quiet_step given lines (readied c) d same calls_ready))
@@ -116,7 +119,8 @@ module _ {given : Given} {lines : List Outcome} {old : SeenNodes} (s : AreSound 
           (subst (λ (ls : List Outcome). HasLookedUp given ls d read) (sym as_before) looked)
           (subst (λ (ls : List Outcome). ClientIsSound World (tree_for given ls read) d) (sym as_before) own)
           tt
-          (by looks) where
+          (by looks)
+          stays where
             by : (read ≡ s.reads i) ⊎ IsOfNow read lines → ((lines_in Nothing ≡ []) × (read ≡ s.reads i)) ⊎ IsOfNow read (lines ++ [])
             by (inl e) = inl (refl, e)
             by (inr now) = inr (subst (λ (ls : List Outcome). IsOfNow read ls) (sym as_before) now)
@@ -159,8 +163,8 @@ module _ {given : Given} {lines : List Outcome} {old : SeenNodes} (s : AreSound 
       pub answer_stays : (place : ℕ) → IsLookedUp given lines d.client (record { number = at.read.number; at = place }) at.read.call
           → seen ≡ tree_seen given lines (record { number = at.read.number; at = place })
           → is_number (s.reads i) at.read.number ≡ true → seen ≡ tree_at (script_of given) (seen_by (s.reads i) lines)
-          → (tree : Tree) → ClientIsSound World tree heard.client → StaysSound s new i (lines_in heard.told)
-      answer_stays place looked sees number sees_as tree own =
+          → (tree : Tree) → ClientIsSound World tree heard.client → (kind_of c ≡ Fetch → lines_in heard.told ≢ [] → is_some (s.reads i) ≡ true) → StaysSound s new i (lines_in heard.told)
+      answer_stays place looked sees number sees_as tree own answers =
           tells_lines heard clients_are
           (ap (λ (h : Heard). h.client.client) ans.is ∙ same_client d.queue ∙ ans.same.client)
           (own_of c d heard ans.same.client (subst (TellsOwn d) (sym ans.is) (answered d (said.Reply ans.reply))))
@@ -170,6 +174,7 @@ module _ {given : Given} {lines : List Outcome} {old : SeenNodes} (s : AreSound 
           not
           (any_tree World tree (tree_for given (lines ++ lines_in heard.told) None) heard.client not own)
           (subst (λ (h : Heard). AreOfLookups given lines (s.reads i) (lines_in h.told)) (sym ans.is) (answered_looks given lines d at.read at.rest at.queue ans.reply given_read at.is_read (s.reads i) number (right ∙ ap (λ (t : Tree). reply_to t at.read.call) sees_as)))
-          (inr tt) where
+          (inr tt)
+          (none_left (kind_of c) (s.reads i) lines (lines_in heard.told) answers) where
             given_read : IsGiven given d.client at.read
             given_read = is_given given lines d calls at.aim at.read at.rest at.queue

@@ -47,7 +47,7 @@ use Rattle.zb_work.specs.declared.work.Task.{Task}
 use Rattle.zb_work.specs.Fitting.{AimFits}
 use Rattle.zb_work.specs.Steps.{aim_of, step_of, with_step}
 use Rattle.zb_client.specs.Hearing.{HearsStore, goes_on_storing, notes}
-use Rattle.zb_client.specs.Seen.{SeenClient}
+use Rattle.zb_client.specs.Seen.{SeenClient, kind_of}
 use Rattle.zb_client.specs.Telling.{Heard, answers_first, gives_up, gives_up_aim, gives_up_for}
 use Rattle.zb_client.specs.Wishing.{head_of}
 use Rattle.zb_client.specs.declared.steps.Told.TheVariants.{Nothing}
@@ -70,6 +70,7 @@ use Rattle.zb_system.proofs.AnyTree.{any_tree}
 use Rattle.zb_system.proofs.FirstReads.{Begun, begun, not_fetch}
 use Rattle.zb_system.proofs.Inside.{still}
 use Rattle.zb_system.proofs.Joining.{elsewhere, joined}
+use Rattle.zb_system.proofs.ReadsLeft.{none_left, not_reading, silent}
 use Rattle.zb_system.proofs.Quiet.{World, calls_ready, own_of, sound_ready, tells_lines, with_parts}
 use Rattle.zb_system.proofs.Telling.{IsSilentOn, given_up_silent, tree_same}
 
@@ -265,7 +266,8 @@ module _ {given : Given} {lines : List Outcome} {old : SeenNodes} (s : AreSound 
           servers_after
           (ap (λ (z : Sizes). z.clients) sizes_are)
           (subst (λ (t : Tables). RoseBy t.next_entry t) (sym tables_are) s.rose)
-          tt (inr tt))
+          tt (inr tt)
+          (none_left (kind_of c) (s.reads i) lines [] (silent (kind_of c) (s.reads i))))
 
     -- ---- no slot is left for it
     module _ (free : ℕ) (full : f.response ≡ told.Refused (fault.NoSlot free)) where
@@ -310,6 +312,7 @@ module _ {given : Given} {lines : List Outcome} {old : SeenNodes} (s : AreSound 
           (any_tree W Seen (tree_for given (lines ++ lines_in heard.told) None) heard.client left_is.rests full_right.0)
           (quiet.lookups lines (s.reads i))
           (inr tt)
+          (none_left (kind_of c) (s.reads i) lines (lines_in heard.told) (not_reading c (lines_in heard.told) (s.reads i) (ap is_fetch step_is)))
 
     pub answer_is : f.response ≡ (if lacks_slot (has old.servers A.0) A.1 then told.Refused (fault.NoSlot (has old.servers A.0).free) else told.Done)
     answer_is = write_answer (has old.servers A.0) G A.1 f.response (is_write A First) (has_place A First) (fence_low A First) f.served.answer

@@ -1,20 +1,22 @@
 -- The nodes of a sound system, with what they were given and have told.
-use Rattle.std.specs.Prelude.{◌≡◌, ◌≢◌, ℕ, ◌+◌, ◌≤◌, List, ◌++◌, length, slice_get, Some, Option}
+use Rattle.std.specs.Prelude.{◌≡◌, ◌≢◌, ◌⊎◌, ℕ, ◌+◌, ◌≤◌, true, List, [], ◌++◌, length, slice_get, Some, None, is_some, Option}
 use Rattle.zb_types.specs.declared.ids.ServerId.{ServerId}
+use Rattle.zb_types.specs.declared.lines.Kind.{Kind}
+use Rattle.zb_types.specs.declared.lines.Kind.TheVariants.{Lookup, Fetch}
 use Rattle.zb_types.specs.declared.lines.Outcome.{Outcome}
 use Rattle.zb_claims.specs.Points.{tree_at}
 use Rattle.zb_given.specs.Given.{FitGiven, Given, script_of}
 use Rattle.zb_given.specs.Calls.{LookedUp}
-use Rattle.zb_given.specs.Telling.{StepTells}
+use Rattle.zb_given.specs.Telling.{IsOfNow, StepTells}
 use Rattle.zb_tables.specs.Tables.{Contents}
 use Rattle.zb_servers.specs.Standing.{maps_of, server_at}
 use Rattle.zb_servers_laws.specs.Indexed.{AllFitIndex}
-use Rattle.zb_client.specs.Seen.{SeenClient}
+use Rattle.zb_client.specs.Seen.{SeenClient, kind_of}
 use Rattle.zb_client_laws.specs.Around.{IsAround}
 use Rattle.zb_client_laws.specs.Sound.{ClientsAreSound}
 use Rattle.zb_line_laws.specs.Calls.{HasItsCalls, IsCalm}
 use Rattle.zb_progress.specs.Fresh.{RoseBy}
-use Rattle.zb_system.specs.Nodes.{SeenNodes, around}
+use Rattle.zb_system.specs.Nodes.{IsClient, SeenNodes, around}
 use Rattle.zb_system.specs.Looking.{HasLookedUp, tree_for}
 
 -- The servers of a sound system: as many as there are to be, each fragment where its index says, and none that refuses the
@@ -47,11 +49,19 @@ pub record AreSound (given : Given) (lines : List Outcome) (n : SeenNodes) : Typ
   pub told : LinesAreSound given lines
   pub rose : RoseBy n.manager.tables.next_entry n.manager.tables
 
+-- What a step of this kind, behind these lines, that told `more` makes of its client's read at work: a lookup looks it up
+-- now, and no other step looks one up. Where a block is read and lines are told, they answer the read that was looked up.
+pub record ReadStays (kind : Kind) (old new : Option LookedUp) (lines more : List Outcome) : Type 0 where
+  pub looked : kind ≡ Lookup → IsOfNow new (lines ++ more)
+  pub goes_on : kind ≢ Lookup → (new ≡ old) ⊎ (new ≡ None)
+  pub answers : kind ≡ Fetch → more ≢ [] → is_some old ≡ true
+
 -- What a step of client i + 1 leaves that told `more`: the nodes are sound with its lines, which are its own; a read is answered from
 -- the tree at its lookup; and the reads of others stay looked up as they were.
 pub record StaysSound {given : Given} {lines : List Outcome} {old : SeenNodes} (s : AreSound given lines old) (new : SeenNodes) (i : ℕ) (more : List Outcome) : Type 0 where
   pub sound : AreSound given (lines ++ more) new
   pub tells : StepTells given lines (i + 1) (s.reads i) (sound.reads i) more
+  pub read : (c : SeenClient) → IsClient old i c → ReadStays (kind_of c) (s.reads i) (sound.reads i) lines more
   pub others : (j : ℕ) → j ≢ i → sound.reads j ≡ s.reads j
 
 -- the nodes are sound where this was given, with the lines as they are; the reads that were looked up stay so

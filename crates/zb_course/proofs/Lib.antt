@@ -1,0 +1,5 @@
+-- Lemmas on the course of a system.
+pub mod Going
+pub mod Clients
+pub mod Stepping
+pub mod Giving

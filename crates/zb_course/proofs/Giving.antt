@@ -205,9 +205,9 @@ next_is_new given lines c client s =
     s.keeps.waiting client (suc (count_of c.ledger client))
     ∙ ap (λ (n : ℕ). waits given lines client (suc n)) (s.keeps.counts client)
     ∙ by (has_final lines client (suc (length (calls_of given client)))) where
-  none : call_of (script_of given) client (suc (length (calls_of given client))) ≡ None
-  none = names_own given client (length (calls_of given client)) ∙ past (calls_of given client)
+      none : call_of (script_of given) client (suc (length (calls_of given client))) ≡ None
+      none = names_own given client (length (calls_of given client)) ∙ past (calls_of given client)
 
-  by : (b : Bool) → (if b then None else call_of (script_of given) client (suc (length (calls_of given client)))) ≡ None
-  by true = refl
-  by false = none
+      by : (b : Bool) → (if b then None else call_of (script_of given) client (suc (length (calls_of given client)))) ≡ None
+      by true = refl
+      by false = none

@@ -4,6 +4,7 @@ ghost use Rattle.zb_types.specs.Tree.{listing};
 ghost use Rattle.zb_tables.specs.Tables.{Contents, shown_tree};
 ghost use Rattle.zb_ledger.specs.Seen.{call_at, count_of};
 ghost use Rattle.zb_nodes.specs.Seen.{IsSound, Keeps, blocker_at, kind_at};
+ghost use Rattle.zb_course.specs.Sound.{most_calls};
 ghost use Rattle.zb_course.specs.Steps.{Finishes, HasHalted, IsFirstCourse, LooksAt, OwnsRest, StepIs, TakesCall, TellsRest, holder_of};
 
 use crate::lines::{Untold, any_unfinished, lines_told, tell_all, text_of};
@@ -63,6 +64,7 @@ impl Course {
         requires fresh { call_at self.old.ledger.waiting client (suc (count_of self.old.ledger client)) ≡ None }
         ensures number { IfOk result (λ number. number ≡ suc (count_of self.old.ledger client)) }
         ensures ok { OnOk result (TakesCall self.old self.new client call) }
+        ensures few { OnOk result (self.old.calls < most_calls) }
         ensures err { OnErr result (self.new ≡ self.old) }
     {
         if self.calls >= MOST_CALLS {

@@ -1,2 +1,4 @@
 pub mod Under
 pub mod Leading
+pub mod Taken
+pub mod Opened

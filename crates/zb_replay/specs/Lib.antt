@@ -1,3 +1,5 @@
 pub mod Answers
 pub mod Entering
 pub mod Nodes
+pub mod Opening
+pub mod Taking

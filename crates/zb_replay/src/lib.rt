@@ -5,8 +5,13 @@ mod committing;
 mod entering;
 mod faults;
 mod node;
+mod opening;
+mod pieces;
 mod retiring;
+mod taking;
 
 pub use node::ManagerNode;
+pub use opening::{first_manager, replay};
+pub use pieces::{OpenFault, PiecesFault, ReadPieces};
 pub use zb_manager::ReplyList;
 pub use zb_platter::NodeFault;

@@ -5,8 +5,6 @@
 #[cfg(test)]
 mod batches;
 #[cfg(test)]
-mod blocks;
-#[cfg(test)]
 mod cache;
 #[cfg(test)]
 mod conflict;

@@ -1,8 +1,8 @@
 -- What is read back of platter 0.
-use Rattle.std.specs.Prelude.{◌≡◌, ◌⊎◌, ℕ, List}
+use Rattle.std.specs.Prelude.{◌≡◌, ℕ, List}
 use Rattle.zb_outside.specs.Meaning.{Standing}
 use Rattle.zb_ckpt.specs.declared.root.Root.{Root}
-use Rattle.zb_ckpt.specs.Says.{Says as SaysRoot, IsForeign}
+use Rattle.zb_ckpt.specs.Says.{Says as SaysRoot}
 use Rattle.zb_journal.specs.Journal.{Says, IsBadAt}
 use Rattle.zb_tables.specs.Tables.{Tables, Contents}
 use Rattle.zb_spelling.specs.Spelling.{spelling_of_tables}
@@ -18,14 +18,7 @@ pub record StandsAgain (p : SeenPlatter) (bytes : List ℕ) (contents : Contents
   pub stands : Stands p contents tables s
   pub text : spelling_of_tables stands.start ≡ bytes
 
--- there is a root, and behind it something begins as an entry and is none
-pub record HasBadEntry (image : List ℕ) : Type 0 where
-  pub root : Root
-  pub bytes : List ℕ
+-- behind the checkpoint of this root something begins as an entry and is none
+pub record HasBadEntry (image : List ℕ) (root : Root) : Type 0 where
   pub place : ℕ
-  pub says : SaysRoot image root bytes
   pub bad : IsBadAt image root.first place
-
--- the first wrong field of the root, or 8 where an entry is bad
-abbrev pub IsWrong : List ℕ → ℕ → Type 0
-IsWrong image field = IsForeign image field ⊎ ((field ≡ 8) × HasBadEntry image)

@@ -14,4 +14,4 @@ pub use formatting::format;
 pub use laws::{an_image_says_one_value, no_entry_names_a_stripe};
 pub use naming::first_naming;
 pub use platter::ManagerPlatter;
-pub use restoring::read;
+pub use restoring::{read_behind, read_root};

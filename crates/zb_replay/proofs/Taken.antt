@@ -1,5 +1,5 @@
 -- Entries that are taken when the node is opened, or refused.
-use Rattle.std.proofs.Common.{◌≡◌, ◌≢◌, ◌⊎◌, inl, inr, ℕ, ◌+◌, ◌<◌, ◌==◌, ◌&&◌, ◌||◌, Bool, true, false, if◌then◌else◌, List, [], ◌∷◌, length, drop, not, option_map, Option, None, Some, refl, sym, ◌∙◌, ap, subst, arith}
+use Rattle.std.proofs.Common.{◌≡◌, inl, inr, ℕ, ◌+◌, ◌==◌, ◌&&◌, ◌||◌, Bool, true, false, if◌then◌else◌, List, [], ◌∷◌, length, drop, not, option_map, Option, None, Some, refl, sym, ◌∙◌, ap, subst, arith}
 use Rattle.std.specs.List.{AllByRecursion, list_any}
 use Rattle.std.specs.Option.{is_some}
 use Rattle.std.proofs.lemmas.Bool.{eqb-true}
@@ -12,10 +12,10 @@ use Rattle.zb_batch.specs.Spelling.{meta_length, spelling_of_batch}
 use Rattle.zb_numbers.specs.Fronts.{ReadsFront}
 use Rattle.zb_entries.specs.declared.entry.Entry.{Entry}
 use Rattle.zb_entries.specs.declared.entry.Entry.TheVariants.{Attach, Commit, Mark, Retire}
-use Rattle.zb_tables.specs.Tables.{Tables, Contents}
+use Rattle.zb_tables.specs.Tables.{Contents}
 use Rattle.zb_tables.specs.Fold.{folded}
 use Rattle.zb_tables.specs.Replay.{IsBatchIn, joined}
-use Rattle.zb_tables.specs.Taking.{IsElsewhere, IsOther, MayCommit, commit_refusal}
+use Rattle.zb_tables.specs.Taking.{IsElsewhere, IsOther}
 use Rattle.zb_manager.specs.Managers.{SeenManager}
 use Rattle.zb_platter.specs.Naming.{first_naming, names_stripe}
 use Rattle.zb_replay.specs.Opening.{NoneTakes, Takes}

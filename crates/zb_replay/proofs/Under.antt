@@ -1,12 +1,14 @@
 -- How platter 0 stands under the node.
-use Rattle.std.proofs.Common.{◌≡◌, inl, inr, ℕ, Bool, false, List, [], Option, None, Some, Result, Ok, Err, OnOk, OnErr, IsErrOf, refl, sym, ap, subst}
+use Rattle.std.proofs.Common.{◌≡◌, inl, inr, ℕ, ◌+◌, Bool, false, List, [], Option, None, Some, Result, Ok, Err, OnOk, OnErr, IsErrOf, refl, sym, ◌∙◌, ap, subst}
 use Rattle.zb_types.specs.declared.geometry.Geometry.{Geometry}
 use Rattle.zb_batch.specs.declared.batch.Batch.{Batch}
 use Rattle.zb_entries.specs.declared.entry.Entry.{Entry}
 use Rattle.zb_entries.specs.declared.entry.Entry.TheVariants.{Attach, Commit, Mark, Retire}
+use Rattle.zb_outside.specs.Counts.{Counts, HasWritten}
 use Rattle.zb_outside.specs.Meaning.{Meaning}
 use Rattle.zb_outside.specs.Runs.{Run}
 use Rattle.zb_outside.proofs.Runs.{started, then_run, weaker_run}
+use Rattle.zb_journal.specs.Putting.{writes_at}
 use Rattle.zb_tables.specs.Tables.{Tables, Contents}
 use Rattle.zb_tables.specs.Taking.{IsTaken, Sizes}
 use Rattle.zb_spelling.specs.Unspelling.{sizes_of}
@@ -18,10 +20,11 @@ use Rattle.zb_platter.specs.Standing.{SeenPlatter, Stands}
 use Rattle.zb_platter.specs.Changing.{ChangeTold, Leads, with_checkpoint, with_entry}
 use Rattle.zb_platter.proofs.Changed.{says_now}
 use Rattle.zb_types.specs.declared.tables.CommitFault.{CommitFault}
+use Rattle.zb_types.specs.declared.tables.CommitFault.TheVariants.{NoMemory as Lacking}
 use Rattle.zb_types.specs.declared.tables.RetireFault.{RetireFault}
 use Rattle.zb_replay.specs.Answers.{commit_fault, commit_stopped, retire_fault, retire_stopped}
 use Rattle.zb_replay.specs.Nodes.{NodeTold, SaysBeforeOr, SeenNode}
-use Rattle.zb_replay.specs.Entering.{EnterTold, IsPlaced, PlaceTold}
+use Rattle.zb_replay.specs.Entering.{EnterTold, IsEntered, IsPlaced, PlaceTold}
 
 -- before the first call
 run_still : (p : SeenPlatter) (contents : Contents) (t : Tables) (a : Meaning) → Stands p contents t a.now → Run 0 (λ image. SaysTables p.root.geo contents image t) a a
@@ -102,6 +105,37 @@ module _ {B : Type 0} (meaning : B → Meaning) (contents : Contents) where
         told_by (Err NoMemory) ok err stands still run = record { run = run; stands = tt; kept = λ fine. stand_same mid new before m b err (still (λ same. absurd cc)) st }
         told_by (Err Stopped) ok err stands still run = record { run = run; stands = tt; kept = λ fine. absurd cc }
 
+-- which entries the platter has then
+pub entered_by : {T : Type 0} (r : Result T NodeFault) (t : Tables) (entry : Entry) (old mid new : SeenPlatter) → IsPlaced t old mid → OnOk r (new ≡ with_entry mid entry) → OnOk r (IsEntered t entry old new)
+entered_by (Ok x) t entry old mid new (inl same) ok = inl (ok ∙ ap (λ (p : SeenPlatter). with_entry p entry) same)
+entered_by (Ok x) t entry old mid new (inr cut) ok = inr (ok ∙ ap (λ (p : SeenPlatter). with_entry p entry) cut)
+entered_by (Err e) t entry old mid new placed ok = tt
+
+pub placed_by : {T : Type 0} (r : Result T NodeFault) (t : Tables) (old mid new : SeenPlatter) → IsPlaced t old mid → OnErr r (new ≡ mid) → OnErr r (IsPlaced t old new)
+placed_by (Ok x) t old mid new placed err = tt
+placed_by (Err e) t old mid new placed err = subst (λ (p : SeenPlatter). IsPlaced t old p) (sym err) placed
+
+-- where memory lacked behind a place that stood there before, nothing was done
+pub lacking_by : {B T : Type 0} (r : Result T NodeFault) (a m b : B) → m ≡ a → ((IsErrOf r Stopped → ⊥) → OnErr r (b ≡ m)) → IsErrOf r NoMemory → b ≡ a
+lacking_by (Ok x) a m b same still is = absurd cc
+lacking_by (Err (Worn field)) a m b same still is = absurd cc
+lacking_by (Err NoMemory) a m b same still is = still (λ other. absurd cc) ∙ same
+lacking_by (Err Stopped) a m b same still is = absurd cc
+
+-- tables in memory and an entry that are the same
+pub entered_same : (t u : Tables) (e d : Entry) (old new : SeenPlatter) → t ≡ u → e ≡ d → IsEntered t e old new → IsEntered u d old new
+entered_same t u e d old new a b h = subst (λ (x : Tables). IsEntered x d old new) a (subst (λ (x : Entry). IsEntered t x old new) b h)
+
+pub placed_same : (t u : Tables) (old new : SeenPlatter) → t ≡ u → IsPlaced t old new → IsPlaced u old new
+placed_same t u old new a h = subst (λ (x : Tables). IsPlaced x old new) a h
+
+-- how many writes it was asked for where the place stood there before
+pub written_by : {B : Type 0} (meaning : B → Meaning) (counts : B → Counts) {T : Type 0} (r : Result T NodeFault) (old mid : SeenPlatter) (a m b : B) → mid ≡ old → m ≡ a
+    → OnOk r (HasWritten 0 (writes_at ((meaning m).now.seen 0) (4096 + mid.journal.place)) (counts m) (counts b)) → OnOk r (HasWritten 0 (writes_at ((meaning a).now.seen 0) (4096 + old.journal.place)) (counts a) (counts b))
+written_by {B} meaning counts r old mid a m b same still h =
+    subst (λ (x : B). OnOk r (HasWritten 0 (writes_at ((meaning x).now.seen 0) (4096 + old.journal.place)) (counts x) (counts b))) still
+    (subst (λ (p : SeenPlatter). OnOk r (HasWritten 0 (writes_at ((meaning m).now.seen 0) (4096 + p.journal.place)) (counts m) (counts b))) same h)
+
 -- The node.
 
 -- nothing has changed
@@ -150,6 +184,13 @@ commit_less T S e answer is = subst (λ (f : CommitFault). commit_stopped {T = T
   by (Worn field) fine = refl
   by NoMemory fine = refl
   by Stopped fine = absurd cc
+
+pub lacked : {T : Type 0} (e : NodeFault) (answer : CommitFault) → answer ≡ commit_fault e → IsErrOf {T = T} {E = CommitFault} (Err answer) Lacking → e ≡ NoMemory
+lacked {T} e answer is = subst (λ (f : CommitFault). IsErrOf {T = T} {E = CommitFault} (Err f) Lacking → e ≡ NoMemory) (sym is) (by e) where
+  by : (e : NodeFault) → IsErrOf {T = T} {E = CommitFault} (Err (commit_fault e)) Lacking → e ≡ NoMemory
+  by (Worn field) told = absurd cc
+  by NoMemory told = refl
+  by Stopped told = absurd cc
 
 pub retire_less : (T S : Type 0) (e : NodeFault) (answer : RetireFault) → answer ≡ retire_fault e → retire_stopped {T = T} (Err answer) ≡ false → is_stopped {T = S} (Err e) ≡ false
 retire_less T S e answer is = subst (λ (f : RetireFault). retire_stopped {T = T} (Err f) ≡ false → is_stopped {T = S} (Err e) ≡ false) (sym is) (by e) where

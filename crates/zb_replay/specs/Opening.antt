@@ -1,18 +1,25 @@
 -- What an opening makes of what platter 0 says.
-use Rattle.std.specs.Prelude.{◌≡◌, ◌⊎◌, ℕ, ◌+◌, ◌<◌, List, [], ◌∷◌, ◌++◌, length, Some}
+use Rattle.std.specs.Prelude.{◌≡◌, ◌⊎◌, ℕ, ◌+◌, ◌<◌, Bool, true, false, List, [], ◌∷◌, ◌++◌, length, Some, Result, Ok, Err}
+use Rattle.zb_types.specs.declared.geometry.Geometry.{Geometry}
 use Rattle.zb_types.specs.declared.ids.LogId.{LogId}
 use Rattle.zb_types.specs.declared.ids.Piece.{Piece}
 use Rattle.zb_batch.specs.declared.batch.Batch.{Batch}
 use Rattle.zb_entries.specs.declared.entry.Entry.{Entry}
 use Rattle.zb_entries.specs.declared.entry.Entry.TheVariants.{Attach, Commit, Mark, Retire}
-use Rattle.zb_outside.specs.Meaning.{Meaning}
+use Rattle.zb_outside.specs.Meaning.{Meaning, Standing}
+use Rattle.zb_ckpt.specs.declared.root.Root.{Root}
+use Rattle.zb_ckpt.specs.Says.{Says, IsForeign}
 use Rattle.zb_tables.specs.Tables.{Tables, Contents}
 use Rattle.zb_tables.specs.Fold.{folded}
 use Rattle.zb_tables.specs.Replay.{IsBatchOf}
 use Rattle.zb_tables.specs.Taking.{AreTaken, IsTaken, Sizes}
 use Rattle.zb_spelling.specs.Spelling.{spelling_of_tables}
 use Rattle.zb_spelling.specs.Unspelling.{IsCheckpoint, sizes_of}
+use Rattle.zb_platter.specs.Reading.{HasBadEntry, IsReadBack}
 use Rattle.zb_platter.specs.Standing.{SeenPlatter}
+use Rattle.zb_replay.specs.Nodes.{NodeStands, SeenNode}
+use Rattle.zb_replay.specs.declared.pieces.OpenFault.{OpenFault}
+use Rattle.zb_replay.specs.declared.pieces.OpenFault.TheVariants.{Foreign, Unreachable, NoMemory, Stopped}
 
 -- a read of platter 0 gives what it gave, and a crash now leaves what it could have left before
 pub record LeavesTables (old new : Meaning) : Type 0 where
@@ -57,7 +64,64 @@ pub record HasRefused (z : Sizes) (contents : Contents) (start : Tables) (entrie
   pub refused : IsRefused z contents before tables entry
 
 -- these tables are those of the checkpoint with these bytes, whose next entry is the first behind it
-pub record IsFirst (p : SeenPlatter) (bytes : List ℕ) (start : Tables) : Type 0 where
-  pub is : IsCheckpoint (sizes_of p.root.geo) start
+pub record IsFirst (root : Root) (bytes : List ℕ) (start : Tables) : Type 0 where
+  pub is : IsCheckpoint (sizes_of root.geo) start
   pub text : spelling_of_tables start ≡ bytes
-  pub first : start.next_entry ≡ p.root.first
+  pub first : start.next_entry ≡ root.first
+
+-- the platter is read so, and its checkpoint has these tables
+pub record IsStart (image : List ℕ) (platter : SeenPlatter) (start : Tables) : Type 0 where
+  pub bytes : List ℕ
+  pub back : IsReadBack image platter bytes
+  pub first : IsFirst platter.root bytes start
+
+-- there is a root, and no tables of its first entry have the bytes of its checkpoint
+pub record HasNoTables (image : List ℕ) : Type 0 where
+  pub root : Root
+  pub bytes : List ℕ
+  pub says : Says image root bytes
+  pub none : (t : Tables) → IsFirst root bytes t → ⊥
+
+-- there is a checkpoint, and behind it something begins as an entry and is none
+pub record HasBadBehind (image : List ℕ) : Type 0 where
+  pub root : Root
+  pub bytes : List ℕ
+  pub start : Tables
+  pub says : Says image root bytes
+  pub first : IsFirst root bytes start
+  pub bad : HasBadEntry image root
+
+-- there are a checkpoint and entries, and one of them is refused
+pub record HasRefusedBehind (contents : Contents) (image : List ℕ) : Type 0 where
+  pub platter : SeenPlatter
+  pub start : Tables
+  pub is : IsStart image platter start
+  pub refused : HasRefused (sizes_of platter.root.geo) contents start platter.entries
+
+-- the first wrong field: 1 to 6 of the root, 7 the checkpoint, 8 where something behind it is no entry
+abbrev pub IsUnread : List ℕ → ℕ → Type 0
+IsUnread image field = IsForeign image field ⊎ (((field ≡ 7) × HasNoTables image) ⊎ ((field ≡ 8) × HasBadBehind image))
+
+-- or 8 where an entry is refused
+abbrev pub IsWrong : Contents → List ℕ → ℕ → Type 0
+IsWrong contents image field = IsUnread image field ⊎ ((field ≡ 8) × HasRefusedBehind contents image)
+
+-- platter 0 is read so, and its entries, taken one behind the other, lead from the tables of its checkpoint to those of the node
+pub record IsOpened (contents : Contents) (image : List ℕ) (node : SeenNode) : Type 0 where
+  pub start : Tables
+  pub is : IsStart image node.platter start
+  pub taken : AreTaken (sizes_of node.platter.root.geo) contents [] start node.platter.entries node.manager.tables
+
+-- the node is of this system, has these tables, and platter 0 stands under it
+pub record StandsOpen (geo : Geometry) (contents : Contents) (tables : Tables) (node : SeenNode) (s : Standing) : Type 0 where
+  pub system : node.platter.root.geo ≡ geo
+  pub tables_are : node.manager.tables ≡ tables
+  pub stands : NodeStands node contents s
+
+-- a call of platter 0 failed
+abbrev pub open_stopped : {T : Type 0} → Result T OpenFault → Bool
+open_stopped (Ok x) = false
+open_stopped (Err (Foreign field)) = false
+open_stopped (Err (Unreachable a b)) = false
+open_stopped (Err NoMemory) = false
+open_stopped (Err Stopped) = true

@@ -4,12 +4,16 @@
 mod committing;
 mod entering;
 mod faults;
+mod laws;
 mod node;
 mod opening;
 mod pieces;
 mod retiring;
+mod starting;
 mod taking;
 
+pub use committing::Committed;
+pub use laws::a_platter_with_tables_is_wrong_nowhere;
 pub use node::ManagerNode;
 pub use opening::{first_manager, replay};
 pub use pieces::{OpenFault, PiecesFault, ReadPieces};

@@ -1,5 +1,5 @@
 ghost use Rattle.std.specs.Prelude.{◌≡◌, ◌≢◌, ◌≤◌, ◌<◌, ◌+◌, ◌^◌, ℕ, length, Err, None, Some, IsTrue, IsErrOf, IfErr, IfOk, OnOk, OnErr};
-ghost use Rattle.zb_outside.specs.Counts.{Touches};
+ghost use Rattle.zb_outside.specs.Counts.{Touches, HasWritten};
 ghost use Rattle.zb_outside.specs.Runs.{SparesOthers};
 ghost use Rattle.zb_ckpt.specs.Says.{pages_of};
 ghost use Rattle.zb_types.specs.Names.{last_number};
@@ -9,10 +9,13 @@ ghost use Rattle.zb_tables.specs.Taking.{IsState};
 ghost use Rattle.zb_spelling.specs.Spelling.{spelling_of_tables};
 ghost use Rattle.zb_manager.specs.Managers.{IsFreeFor, SameTables, sizes_of};
 ghost use Rattle.zb_manager.specs.Seen.{held_by};
-ghost use Rattle.zb_platter.specs.Changing.{with_checkpoint};
+ghost use Rattle.zb_entries.specs.declared.entry.Entry.TheVariants.{Attach, Mark};
+ghost use Rattle.zb_journal.specs.Putting.{writes_at};
+ghost use Rattle.zb_platter.specs.Changing.{HasPlace, with_checkpoint};
 ghost use Rattle.zb_platter.specs.Faults.{is_stopped};
 ghost use Rattle.zb_platter.specs.declared.faults.NodeFault.TheVariants as fault;
-ghost use Rattle.zb_replay.specs.Nodes.{NodeStands, NodeTold, SameSystem};
+ghost use Rattle.zb_replay.specs.Entering.{IsEntered, IsPlaced};
+ghost use Rattle.zb_replay.specs.Nodes.{IsNode, NodeStands, NodeTold, SameSystem};
 
 use crate::entering::{cut, enter};
 use std::alloc::Global;
@@ -83,6 +86,13 @@ impl ManagerNode {
         self.platter.system()
     }
 
+    /// The tables and the platter are of one system, and number the next entry alike.
+    pub fn know_node(&self)
+        ensures { IsNode self.now.manager self.now.platter }
+    {
+        let _ = &self.manager;
+    }
+
     /// Has a client hold the file manager. Refused exactly where another holds. It isn't kept on the platter.
     pub fn hold(&mut self, client: u8) -> Result<(), Blocked>
         ensures ok { OnOk result (self.new.manager ≡ held_by (Some client) self.old.manager) }
@@ -123,8 +133,8 @@ impl ManagerNode {
     /// durable when it answers. A journal without a place for it is checkpointed first.
     ///
     /// `Worn` comes exactly where a number stands at its last value: field 1 that of the next log, 4,294,967,295, and else 2
-    /// that of the next entry, 2^48. `NoMemory` leaves the tables as they were. `Stopped` comes only where a call of the
-    /// platter failed.
+    /// that of the next entry, 2^48. `NoMemory` leaves the tables as they were, and the platter too where the journal had a
+    /// place, as `Worn` always does. `Stopped` comes only where a call of the platter failed.
     pub fn attach<B: Bay>(
         &mut self,
         alloc: Global,
@@ -141,6 +151,11 @@ impl ManagerNode {
         ensures last { last_number ≤ self.old.manager.tables.next_log → result ≡ Err (fault.Worn 1) }
         ensures worn { (field : ℕ) → IsErrOf result (fault.Worn field) → field ≢ 2 → last_number ≤ self.old.manager.tables.next_log }
         ensures spent { IsErrOf result (fault.Worn 2) → 2 ^ 48 ≤ self.old.platter.journal.number }
+        ensures entered { OnOk result (IsEntered self.old.manager.tables (Attach owner (record { 0 = self.old.manager.tables.next_log })) self.old.platter self.new.platter) }
+        ensures placed { OnErr result (IsPlaced self.old.manager.tables self.old.platter self.new.platter) }
+        ensures unwritten { (field : ℕ) → IsErrOf result (fault.Worn field) → bay.new ≡ bay.old }
+        ensures lacking { IsErrOf result fault.NoMemory → HasPlace self.old.platter 32 → bay.new ≡ bay.old }
+        ensures written { IsTrue B.tells → HasPlace self.old.platter 32 → OnOk result (HasWritten 0 (writes_at ((B.meaning bay.old).now.seen 0) (4096 + self.old.platter.journal.place)) (B.counts bay.old) (B.counts bay.new)) }
         ensures others { IsTrue B.tells → SparesOthers 0 (B.meaning bay.old) (B.meaning bay.new) }
         ensures touches { Touches B.counts B.follows 0 (pages_of (length (spelling_of_tables self.old.manager.tables)) + 6) (is_stopped result) bay.old bay.new }
     {
@@ -163,7 +178,8 @@ impl ManagerNode {
     /// 2^48. The entry is durable when it answers. A journal without a place for it is checkpointed first.
     ///
     /// `Worn`, with field 2, comes exactly where the number of the next entry has its last value, 2^48. `NoMemory` leaves the
-    /// tables as they were. `Stopped` comes only where a call of the platter failed.
+    /// tables as they were, and the platter too where the journal had a place, as `Worn` always does. `Stopped` comes only
+    /// where a call of the platter failed.
     pub fn mark<B: Bay>(
         &mut self,
         alloc: Global,
@@ -180,6 +196,11 @@ impl ManagerNode {
         ensures same { SameSystem self.old self.new }
         ensures spent { 2 ^ 48 ≤ self.old.platter.journal.number → result ≡ Err (fault.Worn 2) }
         ensures worn { (field : ℕ) → IsErrOf result (fault.Worn field) → 2 ^ 48 ≤ self.old.platter.journal.number }
+        ensures entered { OnOk result (IsEntered self.old.manager.tables (Mark members) self.old.platter self.new.platter) }
+        ensures placed { OnErr result (IsPlaced self.old.manager.tables self.old.platter self.new.platter) }
+        ensures unwritten { (field : ℕ) → IsErrOf result (fault.Worn field) → bay.new ≡ bay.old }
+        ensures lacking { IsErrOf result fault.NoMemory → HasPlace self.old.platter 32 → bay.new ≡ bay.old }
+        ensures written { IsTrue B.tells → HasPlace self.old.platter 32 → OnOk result (HasWritten 0 (writes_at ((B.meaning bay.old).now.seen 0) (4096 + self.old.platter.journal.place)) (B.counts bay.old) (B.counts bay.new)) }
         ensures others { IsTrue B.tells → SparesOthers 0 (B.meaning bay.old) (B.meaning bay.new) }
         ensures touches { Touches B.counts B.follows 0 (pages_of (length (spelling_of_tables self.old.manager.tables)) + 6) (is_stopped result) bay.old bay.new }
     {

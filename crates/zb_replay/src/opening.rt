@@ -10,10 +10,10 @@ ghost use Rattle.zb_replay.specs.declared.pieces.OpenFault.TheVariants as fault;
 use crate::pieces::{OpenFault, ReadPieces};
 use crate::taking::take;
 use std::alloc::Global;
+use zb_ckpt::Root;
 use zb_entries::Entry;
 use zb_manager::Manager;
 use zb_outside::Bay;
-use zb_platter::ManagerPlatter;
 use zb_types::{ByteList, Geometry};
 
 /// Takes the entries of the journal into the tables, one behind the other, each with the batch that its pieces have. Platter 0
@@ -51,22 +51,17 @@ pub fn replay<B: Bay, S: ReadPieces<B>>(
 /// The file manager of the checkpoint with these bytes, whose next entry is the first behind it; nobody holds.
 ///
 /// `Foreign`, with field 7, comes where the bytes are no checkpoint of this system, or not that of the first entry.
-pub fn first_manager(
-    alloc: Global,
-    platter: &ManagerPlatter,
-    bytes: &ByteList,
-) -> Result<Manager, OpenFault>
-    ensures is { IfOk result (λ manager. IsFirst platter.now bytes.now manager.tables) }
-    ensures sizes { IfOk result (λ manager. manager.sizes ≡ sizes_of platter.now.root.geo) }
+pub fn first_manager(alloc: Global, root: &Root, bytes: &ByteList) -> Result<Manager, OpenFault>
+    ensures is { IfOk result (λ manager. IsFirst root.now bytes.now manager.tables) }
+    ensures sizes { IfOk result (λ manager. manager.sizes ≡ sizes_of root.now.geo) }
     ensures holder { IfOk result (λ manager. manager.holder ≡ None) }
-    ensures none { (field : ℕ) → IsErrOf result (fault.Foreign field) → (field ≡ 7) × ((t : Tables) → IsFirst platter.now bytes.now t → ⊥) }
+    ensures none { (field : ℕ) → IsErrOf result (fault.Foreign field) → (field ≡ 7) × ((t : Tables) → IsFirst root.now bytes.now t → ⊥) }
     ensures stopped { IsErrOf result fault.Stopped → ⊥ }
 {
-    let geo = platter.system();
-    let Some(manager) = Manager::unspell(alloc, &geo, bytes.slice())? else {
+    let Some(manager) = Manager::unspell(alloc, &root.geo, bytes.slice())? else {
         return Err(OpenFault::Foreign { field: 7 });
     };
-    if manager.next_entry() != platter.first() {
+    if manager.next_entry() != root.first {
         return Err(OpenFault::Foreign { field: 7 });
     }
     Ok(manager)

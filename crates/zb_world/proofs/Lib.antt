@@ -1,8 +1,2 @@
-pub mod Appending
-pub mod Asking
-pub mod More
-pub mod Calls
-pub mod Steps
+-- Lemmas on a sound world.
 pub mod Keeping
-pub mod InBlocks
-pub mod Shelves

@@ -1,11 +1,9 @@
-//! The world: all nodes of a system, the calls that they were given, and the lines that answer them.
+//! The world: all nodes of a system with the outside that they stand on, the calls that they were given, and the lines that
+//! answer them.
 #![tactic(auto)]
 
-mod answers;
-mod files;
-mod ledger;
-mod shelf;
 mod world;
 
-pub use answers::{Halt, StartFault, Step};
-pub use world::World;
+pub use world::{StartFault, World};
+pub use zb_course::Step;
+pub use zb_nodes::Halt;

@@ -1,7 +1,7 @@
 -- One line more before the header of a script, or the header.
-use Rattle.std.proofs.Common.{◌≡◌, ℕ, ◌+◌, ◌≤◌, List, [], ◌∷◌, ◌++◌, length, drop, Some, None, refl, sym, ap, subst, ◌∙◌, append_assoc, arith}
-use Rattle.std.specs.Prelude.{◌≢◌, IsTrue}
-use Rattle.std.specs.List.{flat_map, AllByRecursion}
+use Rattle.std.proofs.Common.{◌≡◌, ℕ, ◌+◌, ◌≤◌, List, [], ◌∷◌, ◌++◌, length, Some, None, refl, sym, ap, subst, ◌∙◌, append_assoc, arith}
+use Rattle.std.specs.Prelude.{IsTrue}
+use Rattle.std.specs.List.{AllByRecursion}
 use Rattle.std.proofs.lemmas.List.{append-nil, length-append}
 use Rattle.zb_types.specs.declared.geometry.Geometry.{Geometry}
 use Rattle.zb_claims.specs.Text.{header_text, max_script}
@@ -10,7 +10,7 @@ use Rattle.zb_script.specs.Places.{Place, IsFront, IsBadHere, script_start}
 use Rattle.zebra.specs.Pending.{Pending, none_pending}
 use Rattle.zebra.specs.Moves.{Tape, IsRead, IsTaken}
 use Rattle.zebra.specs.Rows.{NoRow, moved}
-use Rattle.zebra.specs.Headers.{heads_text, IsHeading, HasSystem, LacksSystem, HasLaterSystem}
+use Rattle.zebra.specs.Headers.{heads_text, IsHeading, HasSystem, LacksSystem}
 use Rattle.zebra.proofs.Running.{behind, IsRead-front}
 
 heads_text-push : (heads : List (List ℕ)) (bytes : List ℕ) → heads_text (heads ++ bytes ∷ []) ≡ heads_text heads ++ ended_line bytes
@@ -44,34 +44,18 @@ skipped_line start now place after p bytes len h valid front is =
       limit = subst (λ (b : List ℕ). length b ≤ max_script) (sym (heads_text-push h.heads bytes)) (omega (arith, length-append (heads_text h.heads) (ended_line bytes), fits, used, front.len_is));
     }
 
-pub a_system : (start now : Tape) (place after : Place) (p : Pending) (geo : Geometry) (len : ℕ) → IsHeading start place p now → geo.clients ≡ 1 → IsFront place p.rest (header_text geo) len → after ≡ record { geo = Some geo; lines = place.lines + 1; used = place.used + len } → HasSystem start geo after (behind p len) now
-a_system start now place after p geo len h one front is =
+pub a_system : (start now : Tape) (place after : Place) (p : Pending) (geo : Geometry) (len : ℕ) → IsHeading start place p now → IsFront place p.rest (header_text geo) len → after ≡ record { geo = Some geo; lines = place.lines + 1; used = place.used + len } → HasSystem start geo after (behind p len) now
+a_system start now place after p geo len h front is =
     let fits : place.used + len ≤ max_script = front.limit in
     let used : place.used ≡ length (heads_text h.heads) = ap (λ (a : Place). a.used) h.at in
     let whole : place.used + len ≡ length (heads_text h.heads ++ header_text geo) = omega (arith, used, front.len_is, length-append (heads_text h.heads) (header_text geo)) in
     record {
       heads = h.heads;
       skipped_first = h.skipped_first;
-      client = one;
       reads = IsRead-front start now (heads_text h.heads) (header_text geo) p len h.reads front.splits;
       at = is ∙ ap (λ n. let a : Place = record { geo = Some geo; lines = n + 1; used = place.used + len } in a) (ap (λ (a : Place). a.lines) h.at)
           ∙ ap (λ n. let a : Place = record { geo = Some geo; lines = length h.heads + 1; used = n } in a) whole;
       limit = omega (arith, fits, whole);
-    }
-
-pub a_later_system : (start now : Tape) (place : Place) (p : Pending) (number : ℕ) (geo : Geometry) (len : ℕ) → IsHeading start place p now → geo.clients ≢ 1 → IsFront place p.rest (header_text geo) len → number ≡ place.lines + 1 → HasLaterSystem start number p now
-a_later_system start now place p number geo len h more front is =
-    let used : place.used ≡ length (heads_text h.heads) = ap (λ (a : Place). a.used) h.at in
-    record {
-      heads = h.heads;
-      skipped_first = h.skipped_first;
-      geo = geo;
-      later = more;
-      len = len;
-      text = front.splits;
-      reads = h.reads;
-      limit = omega (arith, front.limit, used, front.len_is);
-      at = is ∙ ap (λ (a : Place). a.lines + 1) h.at;
     }
 
 pub no_system : (start now : Tape) (place : Place) (p : Pending) (number : ℕ) → IsHeading start place p now → NoRow place.geo place.used p → number ≡ place.lines + 1 → LacksSystem start number p now

@@ -4,4 +4,6 @@ pub mod NextRow
 pub mod Running
 pub mod Heading
 pub mod Whole
+pub mod Finishing
+pub mod Stepping
 pub mod Closing

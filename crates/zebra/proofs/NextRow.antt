@@ -1,26 +1,20 @@
 -- What the pending bytes begin with.
-use Rattle.std.proofs.Common.{◌≡◌, ℕ, suc, ◌+◌, ◌<◌, ◌≤◌, Bool, true, false, not, ◌&&◌, eqb, List, [], ◌∷◌, ◌++◌, length, Option, Some, None, refl, sym, ap, subst, ◌∙◌, append_assoc, arith}
+use Rattle.std.proofs.Common.{◌≡◌, ℕ, ◌+◌, ◌<◌, Bool, true, false, not, ◌&&◌, List, [], ◌∷◌, ◌++◌, length, Option, None, refl, sym, ap, subst, ◌∙◌, append_assoc, arith}
 use Rattle.std.specs.Prelude.{position, nat_le, is_none, ◌≢◌}
 use Rattle.std.proofs.lemmas.List.{append-nil, length-append}
 use Rattle.std.proofs.lemmas.Bool.Decides.{nat_tests}
 use Rattle.zb_types.specs.declared.geometry.Geometry.{Geometry}
-use Rattle.zb_types.specs.declared.calls.Call.{Call}
-use Rattle.zb_types.specs.declared.calls.Call.TheVariants.{Create, Mkdir, Remove, Rename, Write, Truncate, Sync, Read, List as ListOf, Stat, Find}
+use Rattle.zb_types.specs.declared.nodes.Node.TheVariants.{Client, Server, Manager, Cleaner, Mender}
 use Rattle.zb_types.specs.declared.lines.Line.{Line}
 use Rattle.zb_types.specs.declared.lines.Line.TheVariants.{Call as CallLine, Job as JobLine, Steps, StepTo, Event as EventLine}
-use Rattle.zb_types.specs.Limits.{within}
-use Rattle.zb_claims.specs.Text.{newline, spelled, IsCall, max_part}
-use Rattle.zb_laws.proofs.Tests.{high}
+use Rattle.zb_claims.specs.Text.{newline, spelled}
 use Rattle.zb_script.specs.declared.reader.Parsed.TheVariants as parsed
-use Rattle.zb_script.specs.Places.{Place, MayStand, IsFront, IsBadHere, IsOpen, IsLineHere, IsNext, passed}
+use Rattle.zb_script.specs.Places.{Place, IsFront, IsBadHere, IsOpen, IsLineHere, passed}
 use Rattle.zb_script.proofs.Marks.{is_end, unmarked}
 use Rattle.zb_script.proofs.Short.{ended}
 use Rattle.zb_script.proofs.NextBytes.{no_end_within}
-use Rattle.zb_world.specs.Seen.{line_of}
-use Rattle.zb_world.specs.Sound.{IsWithin}
 use Rattle.zebra.specs.Pending.{Pending, wants_more}
-use Rattle.zebra.specs.declared.reading.Next.{Next}
-use Rattle.zebra.specs.Rows.{is_built, IsOfOne, NoRow, IsBadLine, IsAtEnd, NextIs, MovesOn, next_of}
+use Rattle.zebra.specs.Rows.{NoRow, IsBadLine, IsAtEnd, NextIs, MovesOn, next_of}
 
 -- Bytes that are no row.
 
@@ -61,57 +55,35 @@ nothing_or_some (b ∷ bytes) X none some = some (λ wrong. cc)
 
 -- Lines.
 
-one_client : (most n : ℕ) → most ≡ 1 → within 1 most n ≡ true → n ≡ 1
-one_client most n one in_range = grind (arith, nat_tests)
-
-own_client : (at : Option Geometry) (client : ℕ) (call : Call) → IsOfOne at → IsLineHere at (CallLine false client call) → client ≡ 1
-own_client None client call one valid = absurd one
-own_client (Some geo) client call one valid = one_client geo.clients client one valid.0
-
-pub next_line : (place : Place) (p : Pending) (number : ℕ) (line : Line) (len : ℕ) → IsOfOne place.geo → number ≡ place.lines + 1 → IsLineHere place.geo line → IsFront place p.rest (spelled line) len → NextIs place p (next_of number line len)
-next_line place p number (CallLine false client call) len one is valid front =
-    let own : client ≡ 1 = own_client place.geo client call one valid in
-    (own, subst (λ (c : ℕ). IsLineHere place.geo (CallLine false c call)) own valid, subst (λ (c : ℕ). IsFront place p.rest (spelled (CallLine false c call)) len) own front)
-next_line place p number (CallLine true client call) len one is valid front = (is, record { line = CallLine true client call; valid = valid; later = refl; len = len; front = front })
-next_line place p number (JobLine plus job) len one is valid front = (is, record { line = JobLine plus job; valid = valid; later = refl; len = len; front = front })
-next_line place p number (Steps actor count) len one is valid front = (is, record { line = Steps actor count; valid = valid; later = refl; len = len; front = front })
-next_line place p number (StepTo actor kind) len one is valid front = (is, record { line = StepTo actor kind; valid = valid; later = refl; len = len; front = front })
-next_line place p number (EventLine event) len one is valid front = (is, record { line = EventLine event; valid = valid; later = refl; len = len; front = front })
+pub next_line : (place : Place) (p : Pending) (number : ℕ) (line : Line) (len : ℕ) → number ≡ place.lines + 1 → IsLineHere place.geo line → IsFront place p.rest (spelled line) len → NextIs place p (next_of number line len)
+next_line place p number (CallLine plus client call) len is valid front = (valid, front)
+next_line place p number (JobLine plus job) len is valid front = (is, record { line = JobLine plus job; valid = valid; later = refl; len = len; front = front })
+next_line place p number (Steps (Client client) count) len is valid front = (valid, front)
+next_line place p number (Steps (Server server) count) len is valid front = (is, record { line = Steps (Server server) count; valid = valid; later = refl; len = len; front = front })
+next_line place p number (Steps Manager count) len is valid front = (is, record { line = Steps Manager count; valid = valid; later = refl; len = len; front = front })
+next_line place p number (Steps Cleaner count) len is valid front = (is, record { line = Steps Cleaner count; valid = valid; later = refl; len = len; front = front })
+next_line place p number (Steps Mender count) len is valid front = (is, record { line = Steps Mender count; valid = valid; later = refl; len = len; front = front })
+next_line place p number (StepTo (Client client) kind) len is valid front = (valid, front)
+next_line place p number (StepTo (Server server) kind) len is valid front = (is, record { line = StepTo (Server server) kind; valid = valid; later = refl; len = len; front = front })
+next_line place p number (StepTo Manager kind) len is valid front = (is, record { line = StepTo Manager kind; valid = valid; later = refl; len = len; front = front })
+next_line place p number (StepTo Cleaner kind) len is valid front = (is, record { line = StepTo Cleaner kind; valid = valid; later = refl; len = len; front = front })
+next_line place p number (StepTo Mender kind) len is valid front = (is, record { line = StepTo Mender kind; valid = valid; later = refl; len = len; front = front })
+next_line place p number (EventLine event) len is valid front = (is, record { line = EventLine event; valid = valid; later = refl; len = len; front = front })
 
 pub moves_line : (place after : Place) (number : ℕ) (line : Line) (len : ℕ) → after ≡ passed place (parsed.Line line len) → MovesOn place (next_of number line len) after
-moves_line place after number (CallLine false client call) len is = is
-moves_line place after number (CallLine true client call) len is = tt
+moves_line place after number (CallLine plus client call) len is = is
 moves_line place after number (JobLine plus job) len is = tt
-moves_line place after number (Steps actor count) len is = tt
-moves_line place after number (StepTo actor kind) len is = tt
+moves_line place after number (Steps (Client client) count) len is = is
+moves_line place after number (Steps (Server server) count) len is = tt
+moves_line place after number (Steps Manager count) len is = tt
+moves_line place after number (Steps Cleaner count) len is = tt
+moves_line place after number (Steps Mender count) len is = tt
+moves_line place after number (StepTo (Client client) kind) len is = is
+moves_line place after number (StepTo (Server server) kind) len is = tt
+moves_line place after number (StepTo Manager kind) len is = tt
+moves_line place after number (StepTo Cleaner kind) len is = tt
+moves_line place after number (StepTo Mender kind) len is = tt
 moves_line place after number (EventLine event) len is = tt
-
-within_call : (call : Call) → IsCall call → IsWithin call
-within_call (Create path) h = tt
-within_call (Mkdir path) h = tt
-within_call (Remove path) h = tt
-within_call (Rename path to) h = tt
-within_call (Write fid offset bytes) h = (low (length bytes) h.2, high 1 max_part (length bytes) h.2)
-  where
-    low : (n : ℕ) → within 1 max_part n ≡ true → 1 ≤ n
-    low n h = grind (arith, nat_tests)
-within_call (Truncate fid size) h = tt
-within_call Sync h = tt
-within_call (Read fid offset len) h = (low len h.2, high 1 max_part len h.2)
-  where
-    low : (n : ℕ) → within 1 max_part n ≡ true → 1 ≤ n
-    low n h = grind (arith, nat_tests)
-within_call (ListOf path) h = tt
-within_call (Stat path) h = tt
-within_call (Find path) h = tt
-
-pub within_here : (at : Option Geometry) (call : Call) → IsLineHere at (line_of call) → IsWithin call
-within_here None call valid = absurd valid
-within_here (Some geo) call valid = within_call call valid.1
-
--- the header was read already
-pub no_header : (at : Option Geometry) → IsOfOne at → at ≡ None → ⊥
-no_header at one none = subst IsOfOne none one
 
 -- no header was read yet
 pub no_line : (at : Option Geometry) (line : Line) → at ≡ None → IsLineHere at line → ⊥

@@ -1,50 +1,61 @@
 -- How a run ends.
-use Rattle.std.specs.Prelude.{◌≡◌, ◌≢◌, ◌⊎◌, ℕ, ◌+◌, ◌≤◌, Bool, true, false, List, [], ◌∷◌, ◌++◌, length, codes, String, IsTrue, Result, Ok, Err}
+use Rattle.std.specs.Prelude.{◌≡◌, ◌⊎◌, ℕ, ◌+◌, ◌≤◌, ◌==◌, Bool, true, false, not, List, [], ◌∷◌, ◌++◌, length, codes, String, IsTrue, Result, Ok, Err}
 use Rattle.std.specs.String.{string_bytes}
 use Rattle.std.specs.Str.{bytes_eq}
-use Rattle.std.specs.List.{AllByRecursion}
+use Rattle.std.specs.List.{AllByRecursion, list_any}
 use Rattle.zb_types.specs.declared.geometry.Geometry.{Geometry}
 use Rattle.zb_types.specs.declared.lines.Line.{Line}
 use Rattle.zb_types.specs.declared.lines.Outcome.{Outcome}
-use Rattle.zb_types.specs.History.{tree_after}
-use Rattle.zb_claims.specs.Text.{header_text, report_text, tree_text, spelled, IsLine, IsOutcome, max_script}
-use Rattle.zb_claims.specs.Points.{is_begun}
+use Rattle.zb_claims.specs.Text.{report_text, tree_text, spelled, IsLine, IsOutcome, max_script}
+use Rattle.zb_claims.specs.Points.{is_begun, tree_at}
 use Rattle.zb_claims.specs.Fits.{FitLines}
-use Rattle.zb_claims.specs.Script.{Row, lines_in, is_comment, whole, Begins}
-use Rattle.zb_claims.specs.Runs.{TellsTree, Prints, RunsScript, RunsNone, last_line, end_line, script_fault, read_fault, out_of_memory}
+use Rattle.zb_claims.specs.Script.{Row, lines_in, whole, Begins}
+use Rattle.zb_claims.specs.Runs.{TellsTree, Prints, RunsScript, RunsNone, all_ended, is_unfinished, last_line, end_line, script_fault, read_fault, out_of_memory}
+use Rattle.zb_headline.specs.Complete.{lacks_space_alone}
+use Rattle.zb_given.specs.Given.{Given}
 use Rattle.zb_outside.specs.Streams.{Streams, Rose}
-use Rattle.zb_world.specs.Seen.{Seen, has_work, IsFinished}
 use Rattle.zebra.specs.declared.ending.Halted.{Halted}
 use Rattle.zebra.specs.declared.ending.Halted.TheVariants.{Memory, ReadFault, WriteFault}
 use Rattle.zebra.specs.declared.reading.Ending.{Ending}
 use Rattle.zebra.specs.declared.reading.Ending.TheVariants.{Bad, Later, End}
 use Rattle.zebra.specs.declared.last.Last.{Last}
 use Rattle.zebra.specs.Pending.{Pending}
-use Rattle.zebra.specs.Moves.{Tape, IsRead, IsPrinted, TakesNone}
+use Rattle.zebra.specs.Moves.{Tape, IsRead, TakesNone}
 use Rattle.zebra.specs.Rows.{is_built, is_built_row, AreRows, EndsAt}
-use Rattle.zebra.specs.Headers.{heads_text}
-use Rattle.zebra.specs.Running.{Start, front_of, place_of}
+use Rattle.zebra.specs.Running.{Start, StandFor, front_of, place_of}
 
 -- the last line of a run that met a form that isn't built so far
 abbrev pub later_line : ℕ → List ℕ
 later_line number = last_line (codes "later") number
 
+-- The end of a script that was read whole: each call has its last line, and the tree of the lines stands behind, with a status
+-- that tells whether each call was answered.
+pub record IsEnd (script : List Line) (lines : List Outcome) (last : Last) : Type 0 where
+  pub ended : all_ended lines [] script ≡ true
+  pub status : (last.status ≡ 0) ⊎ (last.status ≡ 7)
+  pub unfinished : list_any is_unfinished lines ≡ not (last.status == 0)
+  pub text : last.text.items ≡ tree_text (tree_at script lines) ++ end_line last.status
+
 -- what stands behind the lines of the calls
-abbrev pub IsLast : Ending → Seen → Last → Type 0
-IsLast (Bad number) s last = (has_work s ≡ false) × (last.status ≡ 2) × (last.text.items ≡ script_fault number)
-IsLast (Later number) s last = (has_work s ≡ false) × (last.status ≡ 10) × (last.text.items ≡ later_line number)
-IsLast End s last = IsFinished s × (last.status ≡ 0) × (last.text.items ≡ tree_text (tree_after s.updates) ++ end_line 0)
+abbrev pub IsLast : Ending → List Line → List Outcome → Last → Type 0
+IsLast (Bad number) script lines last = (last.status ≡ 2) × (last.text.items ≡ script_fault number)
+IsLast (Later number) script lines last = (last.status ≡ 10) × (last.text.items ≡ later_line number)
+IsLast End script lines last = IsEnd script lines last
 
 -- all rows were run and the lines printed, and this stands behind them
-pub record HasEnded (start : Start) (tail : Last) (p : Pending) (s : Seen) (now : Tape) : Type 0 where
+pub record HasEnded (start : Start) (tail : Last) (p : Pending) (now : Tape) : Type 0 where
   pub rows : List Row
-  pub valid : AreRows start.geo rows s.calls
+  pub valid : AreRows start.geo rows
   pub reads : IsRead start.tape (front_of start rows) p now
   pub limit : length (front_of start rows) ≤ max_script
-  pub printed : IsPrinted start.tape.printed s now.printed
+  pub given : Given
+  pub lines : List Outcome
+  pub stand : StandFor start.geo (lines_in rows) given lines
+  pub begun : is_begun (lines_in rows) lines (length (lines_in rows)) ≡ true
+  pub printed : now.printed ≡ start.tape.printed ++ report_text lines
   pub ending : Ending
   pub ends : EndsAt ending (place_of start rows) p
-  pub last : IsLast ending s tail
+  pub last : IsLast ending (lines_in rows) lines tail
 
 -- these last bytes were printed with this status, or a front of them with status 4
 pub record PutsLast (bytes : List ℕ) (end status : ℕ) (before after : Tape) : Type 0 where
@@ -64,22 +75,11 @@ abbrev pub PutsFault : {E : Type 0} → Result Last E → ℕ → Tape → Tape 
 PutsFault (Ok last) status before after = PutsLast last.text.items last.status status before after
 PutsFault (Err e) status before after = PutsHalted Memory status before after
 
--- a run of calls alone, behind a header of one client
+-- a run of calls and clients' steps alone: each line of its report is a reply, says that a call is kept, or that space is wanting
 pub record RunsBuilt (status : ℕ) (bytes printed : List ℕ) : Type 0 where
   pub run : RunsScript whole TellsTree status bytes printed
-  pub client : run.geo.clients ≡ 1
   pub built : AllByRecursion (λ row. IsTrue (is_built_row row)) run.rows
-
--- the header behind lines that say nothing has more clients, and the last line tells its number
-pub record StopsAtHeader (status : ℕ) (bytes printed : List ℕ) : Type 0 where
-  pub heads : List (List ℕ)
-  pub geo : Geometry
-  pub rest : List ℕ
-  pub text : bytes ≡ heads_text heads ++ header_text geo ++ rest
-  pub skipped_first : AllByRecursion (λ bytes. IsTrue (is_comment bytes)) heads
-  pub later : geo.clients ≢ 1
-  pub short : length bytes ≤ max_script + length rest
-  pub prints : Prints status printed 10 (later_line (length heads + 1))
+  pub space : AllByRecursion (λ line. lacks_space_alone line ≡ true) run.all
 
 -- the line behind these rows isn't built, the rows were run, and the last line tells its number
 pub record StopsAtLine (status : ℕ) (bytes printed : List ℕ) : Type 0 where
@@ -87,7 +87,6 @@ pub record StopsAtLine (status : ℕ) (bytes printed : List ℕ) : Type 0 where
   pub rows : List Row
   pub rest : List ℕ
   pub begins : Begins whole bytes geo rows rest
-  pub client : geo.clients ≡ 1
   pub built : AllByRecursion (λ row. IsTrue (is_built_row row)) rows
   pub line : Line
   pub valid_line : IsLine geo line
@@ -98,12 +97,13 @@ pub record StopsAtLine (status : ℕ) (bytes printed : List ℕ) : Type 0 where
   pub all : List Outcome
   pub valid : AllByRecursion (IsOutcome geo) all
   pub fits : FitLines true (lines_in rows) all
+  pub space : AllByRecursion (λ line. lacks_space_alone line ≡ true) all
   pub reached : is_begun (lines_in rows) all (length (lines_in rows)) ≡ true
   pub prints : Prints status printed 10 (report_text all ++ later_line (length begins.heads + length rows + 2))
 
 -- what a run prints so far, for these bytes of a script
 abbrev pub RunsSoFar : ℕ → List ℕ → List ℕ → Type 0
-RunsSoFar status bytes printed = RunsBuilt status bytes printed ⊎ (RunsNone whole status bytes printed ⊎ (StopsAtHeader status bytes printed ⊎ StopsAtLine status bytes printed))
+RunsSoFar status bytes printed = RunsBuilt status bytes printed ⊎ (RunsNone whole status bytes printed ⊎ StopsAtLine status bytes printed)
 
 -- what a run took and printed since this time is what the program promises, of the bytes taken and of the whole script
 pub record RunsFrom (status : ℕ) (start now : Tape) : Type 0 where
@@ -124,7 +124,7 @@ pub record IsCaused (status : ℕ) (before after : Streams) : Type 0 where
 
 -- the statuses of a run
 abbrev pub IsStatus : ℕ → Type 0
-IsStatus status = (status ≡ 0) ⊎ ((status ≡ 2) ⊎ ((status ≡ 3) ⊎ ((status ≡ 4) ⊎ ((status ≡ 6) ⊎ (status ≡ 10)))))
+IsStatus status = (status ≡ 0) ⊎ ((status ≡ 7) ⊎ ((status ≡ 2) ⊎ ((status ≡ 3) ⊎ ((status ≡ 4) ⊎ ((status ≡ 6) ⊎ (status ≡ 10))))))
 
 -- the one word `run`
 abbrev pub is_run : {Z : Type 0} → List (String Z) → Bool

@@ -1,5 +1,5 @@
 -- How the header of a script is read.
-use Rattle.std.specs.Prelude.{◌≡◌, ◌≢◌, ℕ, ◌+◌, ◌≤◌, List, [], ◌++◌, length, drop, Option, Some, None, Result, Ok, Err, IsTrue}
+use Rattle.std.specs.Prelude.{◌≡◌, ℕ, ◌+◌, ◌≤◌, List, [], ◌++◌, length, Option, Some, None, Result, Ok, Err, IsTrue}
 use Rattle.std.specs.List.{flat_map, AllByRecursion}
 use Rattle.zb_types.specs.declared.geometry.Geometry.{Geometry}
 use Rattle.zb_claims.specs.Text.{header_text, max_script}
@@ -9,7 +9,7 @@ use Rattle.zebra.specs.declared.ending.Halted.{Halted}
 use Rattle.zebra.specs.declared.header.Head.{Head}
 use Rattle.zebra.specs.declared.header.Head.TheVariants as heads
 use Rattle.zebra.specs.declared.header.Heading.{Heading}
-use Rattle.zebra.specs.declared.header.Heading.TheVariants.{System, Missing, Later}
+use Rattle.zebra.specs.declared.header.Heading.TheVariants.{System, Missing}
 use Rattle.zebra.specs.Pending.{Pending}
 use Rattle.zebra.specs.Moves.{Tape, IsRead, IsTaken}
 use Rattle.zebra.specs.Rows.{NoRow, moved}
@@ -26,11 +26,10 @@ pub record IsHeading (start : Tape) (place : Place) (p : Pending) (now : Tape) :
   pub at : place ≡ record { geo = None; lines = length heads; used = length (heads_text heads) }
   pub limit : length (heads_text heads) ≤ max_script
 
--- a header of one client was read behind them
+-- a header was read behind them
 pub record HasSystem (start : Tape) (geo : Geometry) (place : Place) (p : Pending) (now : Tape) : Type 0 where
   pub heads : List (List ℕ)
   pub skipped_first : AllByRecursion (λ bytes. IsTrue (is_comment bytes)) heads
-  pub client : geo.clients ≡ 1
   pub reads : IsRead start (heads_text heads ++ header_text geo) p now
   pub at : place ≡ record { geo = Some geo; lines = length heads + 1; used = length (heads_text heads ++ header_text geo) }
   pub limit : length (heads_text heads ++ header_text geo) ≤ max_script
@@ -42,18 +41,6 @@ pub record LacksSystem (start : Tape) (number : ℕ) (p : Pending) (now : Tape) 
   pub reads : IsRead start (heads_text heads) p now
   pub limit : length (heads_text heads) ≤ max_script
   pub none : NoRow None (length (heads_text heads)) p
-  pub at : number ≡ length heads + 1
-
--- a header of more clients stands behind them
-pub record HasLaterSystem (start : Tape) (number : ℕ) (p : Pending) (now : Tape) : Type 0 where
-  pub heads : List (List ℕ)
-  pub skipped_first : AllByRecursion (λ bytes. IsTrue (is_comment bytes)) heads
-  pub geo : Geometry
-  pub later : geo.clients ≢ 1
-  pub len : ℕ
-  pub text : p.rest ≡ header_text geo ++ drop len p.rest
-  pub reads : IsRead start (heads_text heads) p now
-  pub limit : length (heads_text heads) + length (header_text geo) ≤ max_script
   pub at : number ≡ length heads + 1
 
 -- what the pending bytes begin with, where no header was read
@@ -68,17 +55,15 @@ HeadMoves before (heads.Skipped len) after = after ≡ moved before len
 HeadMoves before (heads.Header geo len) after = after ≡ record { geo = Some geo; lines = before.lines + 1; used = before.used + len }
 HeadMoves before (heads.Missing number) after = Unit {0}
 
--- the system of a header of one client was read
+-- the system of a header was read
 abbrev pub IsSystemOf : Option Geometry → Heading → Type 0
-IsSystemOf at (System geo) = (at ≡ Some geo) × (geo.clients ≡ 1)
+IsSystemOf at (System geo) = at ≡ Some geo
 IsSystemOf at (Missing number) = Unit {0}
-IsSystemOf at (Later number) = Unit {0}
 
 -- what the heading says of the bytes that were read
 abbrev pub HeadingIs : Heading → Tape → Place → Pending → Tape → Type 0
 HeadingIs (System geo) start place p now = HasSystem start geo place p now
 HeadingIs (Missing number) start place p now = LacksSystem start number p now
-HeadingIs (Later number) start place p now = HasLaterSystem start number p now
 
 -- whatever was read before, one line more was, or the header, or why there is none
 abbrev pub StillHeads : Result (Option Heading) Halted → Place → Pending → Tape → Place → Pending → Tape → Type 0

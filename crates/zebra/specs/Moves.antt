@@ -1,9 +1,10 @@
 -- What a part of a run takes of the script and prints, and why it ends early.
-use Rattle.std.specs.Prelude.{◌≡◌, ℕ, ◌≤◌, true, List, [], ◌++◌, length, take, Result, MatchResult, IsErrOf}
+use Rattle.std.specs.Prelude.{◌≡◌, ℕ, ◌≤◌, true, List, [], ◌++◌, take, Result, MatchResult, IsErrOf}
+use Rattle.zb_types.specs.declared.lines.Outcome.{Outcome}
 use Rattle.zb_claims.specs.Text.{report_text}
 use Rattle.zb_outside.specs.Meaning.{Meaning}
 use Rattle.zb_outside.specs.Streams.{Streams, Rose}
-use Rattle.zb_world.specs.Seen.{Seen}
+use Rattle.zb_course.specs.Seen.{SeenCourse}
 use Rattle.zebra.specs.declared.ending.Halted.{Halted}
 use Rattle.zebra.specs.declared.ending.Halted.TheVariants.{Memory, ReadFault, WriteFault}
 use Rattle.zebra.specs.Pending.{Pending}
@@ -35,24 +36,20 @@ abbrev pub StillReads : {T E : Type 0} → Result T E → Pending → Pending �
 StillReads result old new before after =
     (start : Tape) (front : List ℕ) → IsRead start front old before → MatchResult result (λ _. IsRead start front new after) (λ _. IsTaken start front after)
 
--- the text of all lines was printed since the start
-pub record IsPrinted (start : List ℕ) (s : Seen) (printed : List ℕ) : Type 0 where
-  pub told : s.told ≡ length s.lines
-  pub text : printed ≡ start ++ report_text s.lines
+-- the text of these lines was printed since the start, and no text waits
+pub record IsPrinted (start : List ℕ) (lines : List Outcome) (course : SeenCourse) (printed : List ℕ) : Type 0 where
+  pub none : course.text ≡ []
+  pub text : printed ≡ start ++ report_text lines
 
--- a front of the text of the lines was printed since the start
-abbrev pub IsCut : List ℕ → Seen → List ℕ → Type 0
-IsCut start s printed = (k : ℕ) × (printed ≡ start ++ take k (report_text s.lines))
+-- a front of the text of these lines was printed since the start
+abbrev pub IsCut : List ℕ → List Outcome → List ℕ → Type 0
+IsCut start lines printed = (k : ℕ) × (printed ≡ start ++ take k (report_text lines))
 
 -- where a run breaks off, the text of all lines was printed, or a front of it where a write failed
-abbrev pub PrintsUntil : Halted → List ℕ → Seen → List ℕ → Type 0
-PrintsUntil Memory start s printed = IsPrinted start s printed
-PrintsUntil ReadFault start s printed = IsPrinted start s printed
-PrintsUntil WriteFault start s printed = IsCut start s printed
-
--- whatever was printed before, the new lines are printed behind it
-abbrev pub StillPrints : {T : Type 0} → Result T Halted → Seen → Seen → Tape → Tape → Type 0
-StillPrints result old new before after = (start : List ℕ) → IsPrinted start old before.printed → MatchResult result (λ _. IsPrinted start new after.printed) (λ halted. PrintsUntil halted start new after.printed)
+abbrev pub PrintsUntil : Halted → List ℕ → List Outcome → List ℕ → Type 0
+PrintsUntil Memory start lines printed = printed ≡ start ++ report_text lines
+PrintsUntil ReadFault start lines printed = printed ≡ start ++ report_text lines
+PrintsUntil WriteFault start lines printed = IsCut start lines printed
 
 -- nothing was taken
 pub record TakesNone (before after : Tape) : Type 0 where

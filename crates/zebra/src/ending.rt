@@ -15,6 +15,8 @@ pub const WRITE_FAULT: u8 = 4;
 pub const USAGE: u8 = 5;
 /// Memory ran out.
 pub const NO_MEMORY: u8 = 6;
+/// An update is unfinished at the end of the script.
+pub const UNFINISHED: u8 = 7;
 /// A line of the script has a form that the program doesn't run so far.
 pub const LATER: u8 = 10;
 

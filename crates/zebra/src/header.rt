@@ -14,12 +14,10 @@ use zb_types::{Geometry, Mem, NoMemory};
 /// What the first line of a script is that says something.
 #[derive(Clone, Copy, PartialEq, Eq)]
 pub enum Heading {
-    /// The header of a system that the program runs.
+    /// The header of a system.
     System(Geometry),
     /// No header: the line with this number isn't one.
     Missing { number: u64 },
-    /// The header of a system that the program doesn't run so far, in the line with this number.
-    Later { number: u64 },
 }
 
 // Takes bytes until a line is whole, or the script has no more; none where one is whole already.
@@ -81,16 +79,12 @@ fn read_line<O: Outside + Drop>(
     ensures cause { HasCause result (O.counts out.old).streams (O.counts out.new).streams }
 {
     fill(alloc, source, out)?;
-    let number = script.line_number();
     match next_head(alloc, script, source)? {
         Head::Skipped { len } => {
             source.skip(len);
             Ok(None)
         }
         Head::Header { geo, len } => {
-            if geo.clients != 1 {
-                return Ok(Some(Heading::Later { number }));
-            }
             source.skip(len);
             Ok(Some(Heading::System(geo)))
         }

@@ -8,6 +8,7 @@ mod program;
 mod reading;
 mod run;
 mod source;
+mod steps;
 #[cfg(test)]
 mod tests;
 

@@ -1,25 +1,24 @@
 ghost use Rattle.std.specs.Prelude.{◌≡◌, ◌⊎◌, ◌≤◌, Some, IsTrue, IfOk, true, false, MatchResult};
 ghost use Rattle.zb_claims.specs.Runs.{usage, read_fault, out_of_memory};
 ghost use Rattle.zb_outside.specs.Streams.{Rose};
-ghost use Rattle.zb_world.specs.Seen.{has_work};
 ghost use Rattle.zebra.specs.Moves.{Tape, tape, HasCause};
-ghost use Rattle.zebra.specs.Rows.{IsOfOne};
 ghost use Rattle.zebra.specs.Headers.{HasSystem};
 ghost use Rattle.zebra.specs.Running.{Start, IsRunning, IsBroken};
 ghost use Rattle.zebra.specs.Ends.{HasEnded, PutsLast, PutsFault, PutsHalted, RunsFrom, IsStatus, IsCaused, is_run};
 
 use crate::ending::{Halted, NO_MEMORY, READ_FAULT, USAGE, WRITE_FAULT};
 use crate::header::{Heading, read_head};
-use crate::last::{Last, bad_line, last_of, later_line};
+use crate::last::{Last, bad_line, last_of};
 use crate::run::run_rows;
 use crate::source::Source;
 use std::alloc::Global;
 use zb_outside::Outside;
+use zb_running::reports_begin;
 use zb_script::Script;
 use zb_types::{Geometry, Mem, NoMemory};
 use zb_world::World;
 
-/// How a run ended, as the exit status of the program: 0 at the end of the script, 2 at a line that is none of the
+/// How a run ended, as the exit status of the program: 0 at the end of the script, 7 there too where an update is unfinished, 2 at a line that is none of the
 /// script's language, 3 where the script can't be read, 4 where the report can't be written, 5 for other words than
 /// `run`, 6 for want of memory, and 10 at a line whose form the program doesn't run so far.
 #[derive(Clone, Copy, Debug, PartialEq, Eq)]
@@ -55,11 +54,11 @@ fn put_halted<O: Outside + Drop>(out: &mut O, halted: Halted) -> Status
     }
 }
 
-// Prints the last line of a script without a header that the program runs.
+// Prints the last line of a script without a header.
 fn put_fault<O: Outside + Drop>(out: &mut O, last: Mem<Last>) -> Status
-    requires { IfOk last (λ last. (last.status ≡ 2) ⊎ (last.status ≡ 10)) }
+    requires { IfOk last (λ last. last.status ≡ 2) }
     ensures told { IsTrue O.tells → PutsFault last result.0 (tape (O.counts out.old).streams (O.meaning out.old)) (tape (O.counts out.new).streams (O.meaning out.new)) }
-    ensures status { (result.0 ≡ 2) ⊎ ((result.0 ≡ 10) ⊎ ((result.0 ≡ 4) ⊎ (result.0 ≡ 6))) }
+    ensures status { (result.0 ≡ 2) ⊎ ((result.0 ≡ 4) ⊎ (result.0 ≡ 6)) }
     ensures write { result.0 ≡ 4 → Rose (O.counts out.old).streams.write_faults (O.counts out.new).streams.write_faults }
     ensures reads { (O.counts out.new).streams.read_faults ≡ (O.counts out.old).streams.read_faults }
     ensures writes { (O.counts out.old).streams.write_faults ≤ (O.counts out.new).streams.write_faults }
@@ -77,10 +76,11 @@ fn run_all<O: Outside + Drop>(
     source: &mut Source,
     world: &mut World<O>,
 ) -> Result<Last, Halted>
-    requires one { IsOfOne script.old.geo }
-    requires idle { has_work world.old.seen ≡ false }
-    ensures status { IfOk result (λ last. (last.status ≡ 0) ⊎ ((last.status ≡ 2) ⊎ (last.status ≡ 10))) }
-    ensures told { IsTrue O.tells → (start : Start) → IsRunning start script.old source.old world.old.seen (tape (O.counts world.old.out).streams (O.meaning world.old.out)) → MatchResult result (λ last. HasEnded start last source.new world.new.seen (tape (O.counts world.new.out).streams (O.meaning world.new.out))) (λ halted. IsBroken halted start world.new.seen (tape (O.counts world.new.out).streams (O.meaning world.new.out))) }
+    requires system { script.old.geo ≡ Some world.old.geo }
+    requires settled { world.old.course.untold ≡ None }
+    ensures status { IfOk result (λ last. (last.status ≡ 0) ⊎ ((last.status ≡ 7) ⊎ ((last.status ≡ 2) ⊎ (last.status ≡ 10)))) }
+    ensures told { IsTrue O.tells → (start : Start) → start.geo ≡ world.old.geo → IsRunning start script.old source.old world.old.course (tape (O.counts world.old.out).streams (O.meaning world.old.out))
+        → MatchResult result (λ last. HasEnded start last source.new (tape (O.counts world.new.out).streams (O.meaning world.new.out))) (λ halted. IsBroken halted start (tape (O.counts world.new.out).streams (O.meaning world.new.out))) }
     ensures cause { HasCause result (O.counts world.old.out).streams (O.counts world.new.out).streams }
 {
     let ending = run_rows(alloc, script, source, world)?;
@@ -95,7 +95,6 @@ fn run_script<O: Outside + Drop>(
     source: Source,
     out: O,
 ) -> (Status, O)
-    requires client { geo.clients ≡ 1 }
     requires system { script.geo ≡ Some geo }
     ensures told { IsTrue O.tells → (start : Tape) → HasSystem start geo script source (tape (O.counts out).streams (O.meaning out)) → start.printed ≡ (O.meaning out).now.printed → RunsFrom result.0.0 start (tape (O.counts result.1).streams (O.meaning result.1)) }
     ensures status { IsStatus result.0.0 }
@@ -110,6 +109,7 @@ fn run_script<O: Outside + Drop>(
             return (status, out);
         }
     };
+    reports_begin();
     let last = run_all(alloc, &mut script, &mut source, &mut world);
     let mut out = world.outside();
     let status = match last {
@@ -128,8 +128,8 @@ fn is_run(words: &[String]) -> bool
 
 /// Runs the script that the outside gives, and prints its report, where the words are just `run`.
 ///
-/// The bytes that were printed are the lines of the calls that were read, each call answered by one file tree in the
-/// order of the calls, and the lines that tell how the run ended.
+/// The bytes that were printed are the lines of the calls that were read, which tell one history of one file tree with each
+/// client's calls in their order, and the lines that tell how the run ended.
 pub fn zebra_run<O: Outside + Drop>(alloc: Global, words: &[String], out: O) -> (Status, O)
     ensures runs { IsTrue O.tells → is_run words.now ≡ true → RunsFrom result.0.0 (tape (O.counts out).streams (O.meaning out)) (tape (O.counts result.1).streams (O.meaning result.1)) }
     ensures usage { IsTrue O.tells → is_run words.now ≡ false → PutsLast usage 5 result.0.0 (tape (O.counts out).streams (O.meaning out)) (tape (O.counts result.1).streams (O.meaning result.1)) }
@@ -147,7 +147,6 @@ pub fn zebra_run<O: Outside + Drop>(alloc: Global, words: &[String], out: O) -> 
     let status = match read_head(alloc, &mut script, &mut source, &mut out) {
         Ok(Heading::System(geo)) => return run_script(alloc, geo, script, source, out),
         Ok(Heading::Missing { number }) => put_fault(&mut out, bad_line(alloc, number)),
-        Ok(Heading::Later { number }) => put_fault(&mut out, later_line(alloc, number)),
         Err(halted) => put_halted(&mut out, halted),
     };
     (status, out)

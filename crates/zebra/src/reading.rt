@@ -1,11 +1,11 @@
-ghost use Rattle.std.specs.Prelude.{◌≡◌, ◌≢◌, [], false, IfOk};
-ghost use Rattle.zebra.specs.Rows.{IsOfOne, next_of, NextIs, MovesOn};
+ghost use Rattle.std.specs.Prelude.{◌≡◌, ◌≢◌, [], None, false, IfOk};
+ghost use Rattle.zebra.specs.Rows.{next_of, NextIs, MovesOn};
 ghost use Rattle.zebra.specs.Pending.{wants_more};
 
 use crate::source::Source;
 use std::alloc::Global;
 use zb_script::{Parsed, Script};
-use zb_types::{Call, Line, Mem, NoMemory};
+use zb_types::{Call, Kind, Line, Mem, NoMemory, Node};
 
 /// Where the rows of a script end.
 #[derive(Clone, Copy, Debug, PartialEq, Eq)]
@@ -18,11 +18,21 @@ pub enum Ending {
     Later { number: u64 },
 }
 
+/// A line of a script that the program carries out so far.
+#[derive(Drop)]
+pub enum Action {
+    /// A call for a client; one with a plus isn't waited for.
+    Call { plus: bool, client: u8, call: Call },
+    /// At most so many steps of a client.
+    Steps { client: u8, count: u32 },
+    /// Steps of a client until its next one is of this kind.
+    Until { client: u8, kind: Kind },
+}
+
 /// What comes next in a script behind its header. A row with its end has `len` bytes.
 #[derive(Drop)]
 pub enum Next {
-    /// A call that is waited for.
-    Call { client: u8, call: Call, len: usize },
+    Run { action: Action, len: usize },
     /// An empty line or a comment.
     Skipped { len: usize },
     Ended(Ending),
@@ -32,14 +42,19 @@ pub enum Next {
 fn next_of(number: u64, line: Line, len: usize) -> Next
     ensures { result ≡ next_of number line len }
 {
-    match line {
-        Line::Call {
-            plus: false,
-            client,
-            call,
-        } => Next::Call { client, call, len },
-        _ => Next::Ended(Ending::Later { number }),
-    }
+    let action = match line {
+        Line::Call { plus, client, call } => Action::Call { plus, client, call },
+        Line::Steps {
+            actor: Node::Client(client),
+            count,
+        } => Action::Steps { client, count },
+        Line::StepTo {
+            actor: Node::Client(client),
+            kind,
+        } => Action::Until { client, kind },
+        _ => return Next::Ended(Ending::Later { number }),
+    };
+    Next::Run { action, len }
 }
 
 // Where a script ends whose pending bytes have no line end and may not go on.
@@ -56,7 +71,7 @@ fn unended(number: u64, rest: &[u8]) -> Ending
 
 /// Reads what the pending bytes begin with.
 pub fn next_row(alloc: Global, script: &mut Script, source: &Source) -> Mem<Next>
-    requires one { IsOfOne script.old.geo }
+    requires system { script.old.geo ≢ None }
     requires whole { wants_more source.now ≡ false }
     ensures next { IfOk result (NextIs script.old source.now) }
     ensures moves { IfOk result (λ next. MovesOn script.old next script.new) }

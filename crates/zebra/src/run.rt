@@ -1,21 +1,23 @@
-ghost use Rattle.std.specs.Prelude.{◌≡◌, ◌<◌, ◌≤◌, ◌-◌, None, OnOk, IsTrue, IfOk, false, MatchResult};
-ghost use Rattle.zb_claims.specs.Text.{max_script};
-ghost use Rattle.zb_world.specs.Seen.{has_work};
+ghost use Rattle.std.specs.Prelude.{◌≡◌, ◌<◌, ◌≤◌, ◌-◌, ◌∷◌, ◌++◌, ℕ, List, [], None, Some, OnOk, IsTrue, IfOk, false, true, MatchResult};
+ghost use Rattle.zb_types.specs.Limits.{within};
+ghost use Rattle.zb_types.specs.declared.lines.Line.{Line};
+ghost use Rattle.zb_types.specs.declared.lines.Line.TheVariants.{Call as CallLine};
+ghost use Rattle.zb_claims.specs.Text.{IsLine, max_script};
 ghost use Rattle.zebra.specs.Pending.{wants_more};
-ghost use Rattle.zebra.specs.Moves.{tape, StillReads, StillPrints, TakesNone, HasCause};
-ghost use Rattle.zebra.specs.Rows.{IsOfOne};
-ghost use Rattle.zebra.specs.Running.{Start, IsRunning, GoesOn, HasStopped, IsBroken};
+ghost use Rattle.zebra.specs.Moves.{HasCause, StillReads, TakesNone, tape};
+ghost use Rattle.zebra.specs.Rows.{line_of};
+ghost use Rattle.zebra.specs.Running.{GoesOn, HasStopped, IsBetween, IsBroken, IsCutOffAt, IsRunning, Start};
 
 use crate::ending::Halted;
-use crate::reading::{Ending, Next, next_row};
+use crate::reading::{Action, Ending, Next, next_row};
 use crate::source::{PIECE, Source};
+use crate::steps::{settle, step_times, step_until};
 use std::alloc::Global;
 use zb_outside::Outside;
+use zb_running::{reports_end, reports_take_calls, steps_keep_the_line};
 use zb_script::Script;
-use zb_types::{Failed, Node};
-use zb_world::{Step, World};
-
-const CLIENT: u8 = 1;
+use zb_types::Call;
+use zb_world::World;
 
 // Takes bytes until a line is whole, or the script has no more; none where one is whole already.
 fn fill<O: Outside + Drop>(
@@ -25,7 +27,8 @@ fn fill<O: Outside + Drop>(
 ) -> Result<(), Halted>
     ensures none { wants_more source.old ≡ false → (source.new ≡ source.old) × (world.new ≡ world.old) }
     ensures whole { OnOk result (wants_more source.new ≡ false) }
-    ensures seen { world.new.seen ≡ world.old.seen }
+    ensures course { world.new.course ≡ world.old.course }
+    ensures geo { world.new.geo ≡ world.old.geo }
     ensures told { IsTrue O.tells → StillReads result source.old source.new (tape (O.counts world.old.out).streams (O.meaning world.old.out)) (tape (O.counts world.new.out).streams (O.meaning world.new.out)) }
     ensures prints { IsTrue O.tells → (O.meaning world.new.out).now.printed ≡ (O.meaning world.old.out).now.printed }
     ensures cause { HasCause result (O.counts world.old.out).streams (O.counts world.new.out).streams }
@@ -41,18 +44,55 @@ fn fill<O: Outside + Drop>(
     Ok(())
 }
 
-// Answers all calls that can be answered, and prints each line.
-fn settle<O: Outside + Drop>(alloc: Global, world: &mut World<O>) -> Result<(), Halted>
-    ensures idle { OnOk result (has_work world.new.seen ≡ false) }
-    ensures calls { world.new.seen.calls ≡ world.old.seen.calls }
-    ensures told { IsTrue O.tells → StillPrints result world.old.seen world.new.seen (tape (O.counts world.old.out).streams (O.meaning world.old.out)) (tape (O.counts world.new.out).streams (O.meaning world.new.out)) }
+// Gives a client a call; one with no plus is answered, and its lines are printed.
+fn run_call<O: Outside + Drop>(
+    alloc: Global,
+    world: &mut World<O>,
+    plus: bool,
+    client: u8,
+    call: Call,
+) -> Result<(), Halted>
+    requires line { IsLine world.old.geo (CallLine plus client call) }
+    requires settled { world.old.course.untold ≡ None }
+    ensures settled { OnOk result (world.new.course.untold ≡ None) }
+    ensures geo { world.new.geo ≡ world.old.geo }
+    ensures told { IsTrue O.tells → (start : List ℕ) (script : List Line) → IsBetween start world.old.geo script world.old.course (O.meaning world.old.out).now.printed
+        → MatchResult result (λ _. IsBetween start world.old.geo (script ++ CallLine plus client call ∷ []) world.new.course (O.meaning world.new.out).now.printed)
+        (λ halted. IsCutOffAt halted start world.old.geo script (CallLine plus client call) (O.meaning world.new.out).now.printed) }
     ensures takes { IsTrue O.tells → TakesNone (tape (O.counts world.old.out).streams (O.meaning world.old.out)) (tape (O.counts world.new.out).streams (O.meaning world.new.out)) }
     ensures cause { HasCause result (O.counts world.old.out).streams (O.counts world.new.out).streams }
 {
-    'steps: while world.step(alloc, Node::Client(CLIENT))? != Step::Idle {
-        world.put_report()?;
+    reports_take_calls();
+    reports_end();
+    steps_keep_the_line();
+    world.call(alloc, client, call)?;
+    if plus {
+        return Ok(());
     }
-    Ok(())
+    settle(alloc, world, client)
+}
+
+// Carries out a line of a script, and prints the lines that are told.
+fn run_action<O: Outside + Drop>(
+    alloc: Global,
+    world: &mut World<O>,
+    action: Action,
+) -> Result<(), Halted>
+    requires line { IsLine world.old.geo (line_of action) }
+    requires settled { world.old.course.untold ≡ None }
+    ensures settled { OnOk result (world.new.course.untold ≡ None) }
+    ensures geo { world.new.geo ≡ world.old.geo }
+    ensures told { IsTrue O.tells → (start : List ℕ) (script : List Line) → IsBetween start world.old.geo script world.old.course (O.meaning world.old.out).now.printed
+        → MatchResult result (λ _. IsBetween start world.old.geo (script ++ line_of action ∷ []) world.new.course (O.meaning world.new.out).now.printed)
+        (λ halted. IsCutOffAt halted start world.old.geo script (line_of action) (O.meaning world.new.out).now.printed) }
+    ensures takes { IsTrue O.tells → TakesNone (tape (O.counts world.old.out).streams (O.meaning world.old.out)) (tape (O.counts world.new.out).streams (O.meaning world.new.out)) }
+    ensures cause { HasCause result (O.counts world.old.out).streams (O.counts world.new.out).streams }
+{
+    match action {
+        Action::Call { plus, client, call } => run_call(alloc, world, plus, client, call),
+        Action::Steps { client, count } => step_times(alloc, world, client, count),
+        Action::Until { client, kind } => step_until(alloc, world, client, kind),
+    }
 }
 
 // Runs the next row of the script, or says where its rows ended.
@@ -62,20 +102,21 @@ fn run_row<O: Outside + Drop>(
     source: &mut Source,
     world: &mut World<O>,
 ) -> Result<Option<Ending>, Halted>
-    requires one { IsOfOne script.old.geo }
-    requires idle { has_work world.old.seen ≡ false }
-    ensures idle { OnOk result (has_work world.new.seen ≡ false) }
-    ensures one { IsOfOne script.new.geo }
+    requires system { script.old.geo ≡ Some world.old.geo }
+    requires settled { world.old.course.untold ≡ None }
+    ensures settled { OnOk result (world.new.course.untold ≡ None) }
+    ensures system { script.new.geo ≡ Some world.new.geo }
+    ensures geo { world.new.geo ≡ world.old.geo }
     ensures more { IfOk result (λ ended. ended ≡ None → (script.old.used < script.new.used) × (script.new.used ≤ max_script)) }
-    ensures told { IsTrue O.tells → (start : Start) → IsRunning start script.old source.old world.old.seen (tape (O.counts world.old.out).streams (O.meaning world.old.out)) → MatchResult result (λ ended. GoesOn ended start script.new source.new world.new.seen (tape (O.counts world.new.out).streams (O.meaning world.new.out))) (λ halted. IsBroken halted start world.new.seen (tape (O.counts world.new.out).streams (O.meaning world.new.out))) }
+    ensures told { IsTrue O.tells → (start : Start) → IsRunning start script.old source.old world.old.course (tape (O.counts world.old.out).streams (O.meaning world.old.out))
+        → MatchResult result (λ ended. GoesOn ended start script.new source.new world.new.course (tape (O.counts world.new.out).streams (O.meaning world.new.out))) (λ halted. IsBroken halted start (tape (O.counts world.new.out).streams (O.meaning world.new.out))) }
     ensures cause { HasCause result (O.counts world.old.out).streams (O.counts world.new.out).streams }
 {
     fill(alloc, source, world)?;
     match next_row(alloc, script, source)? {
-        Next::Call { client, call, len } => {
-            world.call(alloc, client, call)?;
+        Next::Run { action, len } => {
             source.skip(len);
-            settle(alloc, world)?;
+            run_action(alloc, world, action)?;
             Ok(None)
         }
         Next::Skipped { len } => {
@@ -86,17 +127,19 @@ fn run_row<O: Outside + Drop>(
     }
 }
 
-/// Runs the rows of a script behind its header, and prints the lines of each call.
+/// Runs the rows of a script behind its header, and prints the lines that are told.
 pub fn run_rows<O: Outside + Drop>(
     alloc: Global,
     script: &mut Script,
     source: &mut Source,
     world: &mut World<O>,
 ) -> Result<Ending, Halted>
-    requires one { IsOfOne script.old.geo }
-    requires idle { has_work world.old.seen ≡ false }
-    ensures idle { OnOk result (has_work world.new.seen ≡ false) }
-    ensures told { IsTrue O.tells → (start : Start) → IsRunning start script.old source.old world.old.seen (tape (O.counts world.old.out).streams (O.meaning world.old.out)) → MatchResult result (λ ending. HasStopped ending start source.new world.new.seen (tape (O.counts world.new.out).streams (O.meaning world.new.out))) (λ halted. IsBroken halted start world.new.seen (tape (O.counts world.new.out).streams (O.meaning world.new.out))) }
+    requires system { script.old.geo ≡ Some world.old.geo }
+    requires settled { world.old.course.untold ≡ None }
+    ensures settled { OnOk result (world.new.course.untold ≡ None) }
+    ensures geo { world.new.geo ≡ world.old.geo }
+    ensures told { IsTrue O.tells → (start : Start) → IsRunning start script.old source.old world.old.course (tape (O.counts world.old.out).streams (O.meaning world.old.out))
+        → MatchResult result (λ ending. HasStopped ending start source.new world.new.course (tape (O.counts world.new.out).streams (O.meaning world.new.out))) (λ halted. IsBroken halted start (tape (O.counts world.new.out).streams (O.meaning world.new.out))) }
     ensures cause { HasCause result (O.counts world.old.out).streams (O.counts world.new.out).streams }
 {
     'rows: loop {

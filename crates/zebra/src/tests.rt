@@ -9,7 +9,7 @@ type Row = (&'static str, &'static [u8], &'static [u8], u8);
 const HELLO: &[u8] =
     b"zebra 1 servers 3 clients 1 fragment 256 block 64 slots 32\nc1 create /a\nc1 write 1 0 \"hello\"\nc1 sync\nc1 read 1 0 5\n";
 
-const ROWS: [Row; 16] = [
+const ROWS: [Row; 24] = [
     (
         "run",
         HELLO,
@@ -78,7 +78,55 @@ const ROWS: [Row; 16] = [
     ),
     (
         "run",
-        b"# first\nzebra 1 servers 3 clients 2 fragment 256 block 64 slots 32\n",
+        b"zebra 1 servers 5 clients 2 fragment 65536 block 4096 slots 512\nc1 create /a\nc1 write 1 67108863 \"x\"\nc1 write 1 67108864 \"y\"\nc1 sync\nc1 stat /a\n",
+        b"c1 1 fid 1\nc1 2 kept buffered\nc1 3 kept buffered\nc1 2 done\nc1 3 too big\nc1 4 done\nc1 5 file 1 67108864\nfile /a 1 67108864\nend 0\n",
+        0,
+    ),
+    (
+        "run",
+        b"zebra 1 servers 3 clients 2 fragment 256 block 64 slots 32\nc1 create /a\nc1 write 1 0 \"aaaaaa\"\nc1 sync\n+c1 write 1 0 \"X\"\n+c1 sync\n+c2 write 1 1 \"Y\"\n+c2 sync\nstep c1 to commit\nstep c2 to commit\nc1 sync\nc2 sync\nc1 read 1 0 6\n",
+        b"c1 1 fid 1\nc1 2 kept buffered\nc1 2 done\nc1 3 done\nc1 4 kept buffered\nc2 1 kept buffered\nc1 4 done\nc1 5 done\nc1 6 done\nc2 1 done\nc2 2 done\nc2 3 done\nc1 7 bytes \"XYaaaa\"\nfile /a 1 6\nend 0\n",
+        0,
+    ),
+    (
+        "run",
+        b"zebra 1 servers 3 clients 2 fragment 256 block 64 slots 32\nc1 create /a\nc2 write 1 0 \"x\"\nc1 remove /a\nc2 sync\n",
+        b"c1 1 fid 1\nc2 1 kept buffered\nc1 2 done\nc2 1 gone\nc2 2 done\nend 0\n",
+        0,
+    ),
+    (
+        "run",
+        b"zebra 1 servers 3 clients 1 fragment 256 block 64 slots 8\nc1 create /a\nc1 write 1 0 \"aaaaaaaaaaaaaaaaaaaaaaaaaaaaaaaaaaaaaaaaaaaaaaaaaaaaaaaaaaaaaaaaaaaaaaaaaaaaaaaaaaaaaaaaaaaaaaaaaaaaaaaaaaaaaaaaaaaaaaaaaaaaaaaaaaaaaaaaaaaaaaaaaaaaaaaaaaaaaaaaaaaaaaaaaaaaaaaaaaaaaaaaaaaaaaaaaaaaaaaaaaaaaaaaaaaaaaaaaaaaaaaaaaaaaaaaaaaaaaaaaaaaaaaaaaaaaaaaaaaaaaaaaaaaaaaaaaaaaaaaaaaaaaaaaaaaaaaaaaaaaaaaaaaaaaaaaaaaaaaaaaaaaaaaaaaaaaaaaaaaaaaaaaaaaaaaaaaaaaaaaaaaaaaaaaaaaaaaaaaaaaaaaaaaaaaaaaaaaaaa\"\nc1 sync\nc1 write 1 0 \"aaaaaaaaaaaaaaaaaaaaaaaaaaaaaaaaaaaaaaaaaaaaaaaaaaaaaaaaaaaaaaaaaaaaaaaaaaaaaaaaaaaaaaaaaaaaaaaaaaaaaaaaaaaaaaaaaaaaaaaaaaaaaaaaaaaaaaaaaaaaaaaaaaaaaaaaaaaaaaaaaaaaaaaaaaaaaaaaaaaaaaaaaaaaaaaaaaaaaaaaaaaaaaaaaaaaaaaaaaaaaaaaaaaaaaaaaaaaaaaaaaaaaaaaaaaaaaaaaaaaaaaaaaaaaaaaaaaaaaaaaaaaaaaaaaaaaaaaaaaaaaaaaaaaaaaaaaaaaaaaaaaaaaaaaaaaaaaaaaaaaaaaaaaaaaaaaaaaaaaaaaaaaaaaaaaaaaaaaaaaaaaaaaaaaaaaaaaaaaaa\"\nc1 sync\nc1 write 1 0 \"aaaaaaaaaaaaaaaaaaaaaaaaaaaaaaaaaaaaaaaaaaaaaaaaaaaaaaaaaaaaaaaaaaaaaaaaaaaaaaaaaaaaaaaaaaaaaaaaaaaaaaaaaaaaaaaaaaaaaaaaaaaaaaaaaaaaaaaaaaaaaaaaaaaaaaaaaaaaaaaaaaaaaaaaaaaaaaaaaaaaaaaaaaaaaaaaaaaaaaaaaaaaaaaaaaaaaaaaaaaaaaaaaaaaaaaaaaaaaaaaaaaaaaaaaaaaaaaaaaaaaaaaaaaaaaaaaaaaaaaaaaaaaaaaaaaaaaaaaaaaaaaaaaaaaaaaaaaaaaaaaaaaaaaaaaaaaaaaaaaaaaaaaaaaaaaaaaaaaaaaaaaaaaaaaaaaaaaaaaaaaaaaaaaaaaaaaaaaaaaa\"\nc1 sync\n",
+        b"c1 1 fid 1\nc1 2 kept buffered\nc1 2 done\nc1 3 done\nc1 4 kept buffered\nc1 4 done\nc1 5 done\nc1 6 kept buffered\nc1 7 kept no space s3\nc1 6 unfinished no space s1\nc1 7 unfinished no space s1\nfile /a 1 400\nend 7\n",
+        7,
+    ),
+    (
+        "run",
+        b"zebra 1 servers 3 clients 3 fragment 256 block 64 slots 32\n+c1 create /a\n+c2 create /b\n+c3 mkdir /d\nstep c2 1000\nstep c1 to idle\nc2 list /\n",
+        b"c2 1 fid 1\nc1 1 fid 2\nc2 2 names a b\nc3 1 done\ndir /d\nfile /a 2 0\nfile /b 1 0\nend 0\n",
+        0,
+    ),
+    (
+        "run",
+        b"zebra 1 servers 3 clients 2 fragment 256 block 64 slots 32\n+c2 write 1 0 \"x\"\nstep c2 1\nc1 create /a\n+c1 write 1 1 \"y\"\nstep c1 1\nc1 sync\nc2 sync\nc1 read 1 0 4\n",
+        b"c2 1 kept buffered\nc1 1 fid 1\nc1 2 kept buffered\nc1 2 done\nc1 3 done\nc2 1 done\nc2 2 done\nc1 4 bytes \"xy\"\nfile /a 1 2\nend 0\n",
+        0,
+    ),
+    (
+        "run",
+        b"zebra 1 servers 3 clients 1 fragment 256 block 64 slots 32\n+c1 create /a\nstep c1 0\n",
+        b"script 3\n",
+        2,
+    ),
+    (
+        "run",
+        b"zebra 1 servers 3 clients 2 fragment 256 block 64 slots 32\nc2 create /a\nstep cl 3\n",
+        b"c2 1 fid 1\nlater 3\n",
+        10,
+    ),
+    (
+        "run",
+        b"zebra 1 servers 3 clients 1 fragment 256 block 64 slots 32\ncrash c1\n",
         b"later 2\n",
         10,
     ),

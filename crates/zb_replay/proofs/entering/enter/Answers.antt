@@ -1,7 +1,8 @@
-use Rattle.std.proofs.Common.{refl}
+use Rattle.std.proofs.Common.{ℕ, refl, subst}
 use Rattle.zb_outside.proofs.Runs.{others_then}
+use Rattle.zb_platter.specs.Changing.{HasPlace}
 use Rattle.zb_platter.specs.declared.faults.NodeFault.TheVariants.{Worn}
-use Rattle.zb_replay.proofs.Under.{enter_still, enter_told, enter_unplaced, leads_still, same_system}
+use Rattle.zb_replay.proofs.Under.{enter_still, enter_told, enter_unplaced, entered_by, lacking_by, leads_still, placed_by, same_system, written_by}
 use Rattle.zb_replay.proofs.entering.enter.Goals as goal
 
 pub returns-then-number-ge-LAST-clause-told : goal.returns-then-number-ge-LAST-clause-told
@@ -23,3 +24,21 @@ returns-clause-told g c told contents after batch st leads =
 
 pub returns-clause-others : goal.returns-clause-others
 returns-clause-others g c told = others_then (c.in_default.ensures.others told) (c.add.ensures.others told)
+
+pub returns-clause-entered : goal.returns-clause-entered
+returns-clause-entered g c = entered_by c.add.result c.args.manager.now.tables c.args.entry c.args.platter.now c.make_place.new.platter c.add.new.self c.make_place.ensures.placed c.add.ensures.ok
+
+pub returns-clause-placed : goal.returns-clause-placed
+returns-clause-placed g c = placed_by c.add.result c.args.manager.now.tables c.args.platter.now c.make_place.new.platter c.add.new.self c.make_place.ensures.placed c.add.ensures.err
+
+pub returns-clause-written : goal.returns-clause-written
+returns-clause-written g c told has =
+    let still = c.make_place.ensures.still (subst (λ (n : ℕ). HasPlace c.args.platter.now n) c.count_of.ensures has) in
+    written_by g.B.Bay.meaning g.B.Bay.counts c.add.result c.args.platter.now c.make_place.new.platter c.args.bay.now c.make_place.new.bay c.add.new.bay still.0 still.1 (c.add.ensures.written told)
+
+pub returns-in-Err-clause-lacking : goal.returns-in-Err-clause-lacking
+returns-in-Err-clause-lacking g c is has = (c.make_place.ensures.still (subst (λ (n : ℕ). HasPlace c.args.platter.now n) c.count_of.ensures has)).1
+
+pub returns-clause-lacking : goal.returns-clause-lacking
+returns-clause-lacking g c is has =
+    lacking_by c.add.result c.args.bay.now c.make_place.new.bay c.add.new.bay (c.make_place.ensures.still (subst (λ (n : ℕ). HasPlace c.args.platter.now n) c.count_of.ensures has)).1 c.add.ensures.unwritten is

@@ -1,4 +1,3 @@
-use Rattle.std.proofs.Common.{◌≡◌, sym, ap, subst, ◌∙◌}
 use Rattle.zb_script.specs.Places.{IsOpen}
 use Rattle.zebra.proofs.NextRow.{no_row, no_line}
 use Rattle.zebra.proofs.Heading.{no_row_here}

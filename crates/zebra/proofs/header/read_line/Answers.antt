@@ -1,8 +1,6 @@
-use Rattle.std.proofs.Common.{◌≡◌, sym, ap, ◌∙◌}
-use Rattle.zebra.specs.Moves.{tape, IsRead}
 use Rattle.zebra.specs.declared.header.Head.TheVariants as heads
-use Rattle.zebra.specs.Headers.{HeadIs, HeadMoves, IsHeading, heads_text}
-use Rattle.zebra.proofs.Heading.{skipped_line, a_system, a_later_system, no_system, heading_filled}
+use Rattle.zebra.specs.Headers.{HeadIs, HeadMoves, heads_text}
+use Rattle.zebra.proofs.Heading.{skipped_line, a_system, heading_filled}
 use Rattle.zebra.proofs.header.read_line.Goals as goal
 
 pub returns-in-Skipped-clause-told : goal.returns-in-Skipped-clause-told
@@ -12,15 +10,9 @@ returns-in-Skipped-clause-told g c tells start h =
     let moves : HeadMoves c.args.script.now (heads.Skipped c.in-Skipped.len) c.next_head.new.script = rw c.in-Skipped.is at c.in_ok-len.ensures.moves in
     rw c.skip.ensures (skipped_line start _ c.args.script.now c.next_head.new.script c.fill.new.source skip.0 c.in-Skipped.len filled skip.1 skip.2 moves)
 
-pub returns-then-geo-ne1-clause-told : goal.returns-then-geo-ne1-clause-told
-returns-then-geo-ne1-clause-told g c tells start h =
-    let filled = heading_filled start _ _ c.args.script.now c.args.source.now c.fill.new.source h (c.in_ok-fill.ensures.told tells start (heads_text h.heads) h.reads) in
-    let head : HeadIs c.args.script.now c.fill.new.source (heads.Header c.in-Header.geo c.in-Header.len) = rw c.in-Header.is at c.in_ok-len.ensures.next in
-    a_later_system start _ c.args.script.now c.fill.new.source c.line_number-number.result c.in-Header.geo c.in-Header.len filled c.if-geo-ne1.true head c.line_number-number.ensures
-
-pub returns-else-geo-ne1-clause-told : goal.returns-else-geo-ne1-clause-told
-returns-else-geo-ne1-clause-told g c tells start h =
+pub returns-in-Header-clause-told : goal.returns-in-Header-clause-told
+returns-in-Header-clause-told g c tells start h =
     let filled = heading_filled start _ _ c.args.script.now c.args.source.now c.fill.new.source h (c.in_ok-fill.ensures.told tells start (heads_text h.heads) h.reads) in
     let head : HeadIs c.args.script.now c.fill.new.source (heads.Header c.in-Header.geo c.in-Header.len) = rw c.in-Header.is at c.in_ok-len.ensures.next in
     let moves : HeadMoves c.args.script.now (heads.Header c.in-Header.geo c.in-Header.len) c.next_head.new.script = rw c.in-Header.is at c.in_ok-len.ensures.moves in
-    rw c.skip-in-Header.ensures (a_system start _ c.args.script.now c.next_head.new.script c.fill.new.source c.in-Header.geo c.in-Header.len filled c.if-geo-ne1.false head moves)
+    rw c.skip-in-Header.ensures (a_system start _ c.args.script.now c.next_head.new.script c.fill.new.source c.in-Header.geo c.in-Header.len filled head moves)

@@ -1,9 +1,9 @@
 use Rattle.std.proofs.Common.{sym}
 use Rattle.zebra.specs.Moves.{tape}
 use Rattle.zebra.proofs.Heading.{first_heading}
-use Rattle.zebra.proofs.Closing.{missing_put, later_put, broken_first}
+use Rattle.zebra.proofs.Closing.{missing_put, broken_first}
 use Rattle.zebra.proofs.program.zebra_run.Goals as goal
-use Rattle.zebra.proofs.program.zebra_run.Goals.{in-Ok-Missing, in-Ok-Later, in-Err}
+use Rattle.zebra.proofs.program.zebra_run.Goals.{in-Ok-Missing, in-Err}
 
 pub returns-in-Ok-System-clause-runs : goal.returns-in-Ok-System-clause-runs
 returns-in-Ok-System-clause-runs g c tells own =
@@ -18,9 +18,6 @@ returns-clause-runs g c tells own =
       | in-Ok-Missing w ↦ rw (w.status-is, w.out-is)
           (let head = rw w.in-Ok-Missing.field-0-is at w.in-Ok-Missing.ensures.told tells start (rw (c.new-script.ensures, c.new-source.ensures) (first_heading start)) in
           missing_put start _ _ w.in-Ok-Missing.number _ c.read_head.new.source w.bad_line.result head w.bad_line.ensures (c.read_head.ensures.prints tells) (w.put_fault-status.ensures.told tells))
-      | in-Ok-Later w ↦ rw (w.status-is, w.out-is)
-          (let head = rw w.in-Ok-Later.field-0-is at w.in-Ok-Later.ensures.told tells start (rw (c.new-script.ensures, c.new-source.ensures) (first_heading start)) in
-          later_put start _ _ w.in-Ok-Later.number _ c.read_head.new.source w.later_line.result head w.later_line.ensures (c.read_head.ensures.prints tells) (w.put_fault-status-in-Ok-Later.ensures.told tells))
       | in-Err w ↦ rw (w.status-is, w.out-is)
           (broken_first w.in-Err.halted start _ _ _ (w.in-Err.ensures.told tells start (rw (c.new-script.ensures, c.new-source.ensures) (first_heading start))) (c.read_head.ensures.prints tells) (w.put_halted-status.ensures.told tells))
     ]

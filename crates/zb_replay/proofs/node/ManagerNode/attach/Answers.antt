@@ -1,10 +1,11 @@
 use Rattle.std.proofs.Common.{Err, Ok, Some, arith, ap, refl, sym, ◌∙◌, ◌≡◌, ◌≤◌}
+use Rattle.zb_entries.specs.declared.entry.Entry.TheVariants.{Attach}
 use Rattle.zb_tables.specs.Tables.{Tables}
 use Rattle.zb_tables.specs.Fold.{attached}
 use Rattle.zb_tables.specs.Taking.{Sizes, no_batch}
 use Rattle.zb_replay.specs.Nodes.{SeenNode}
 use Rattle.zb_replay.proofs.Leading.{attach_leads}
-use Rattle.zb_replay.proofs.Under.{entered_as, node_after, node_before, node_still, same_stop, told_as}
+use Rattle.zb_replay.proofs.Under.{entered_as, entered_same, node_after, node_before, node_still, placed_same, same_stop, told_as}
 use Rattle.zb_replay.proofs.node.ManagerNode.attach.Goals as goal
 
 pub returns-then-next-ge-LAST_LOG-clause-told : goal.returns-then-next-ge-LAST_LOG-clause-told
@@ -43,3 +44,9 @@ returns-clause-told g c = rw (← c.self.view_is) (λ told contents st.
     (entered_as (Ok tt) c.self.inside.platter.root.geo c.self.inside.platter c.enter.new.platter contents c.room.new.self.tables t after _ no_batch (g.B.Bay.meaning c.args.bay.now) (g.B.Bay.meaning c.enter.new.bay) c.room.ensures.same.tables
     (c.in_default.ensures.told told contents after no_batch) st leads)
     refl tables))
+
+pub returns-in-Err-clause-placed : goal.returns-in-Err-clause-placed
+returns-in-Err-clause-placed g c = rw (← c.self.view_is) (placed_same _ _ _ _ c.room.ensures.same.tables c.in-Err.ensures.placed)
+
+pub returns-clause-entered : goal.returns-clause-entered
+returns-clause-entered g c = rw (← c.self.view_is) (entered_same _ _ _ _ _ _ c.room.ensures.same.tables (λ i. Attach c.args.owner (record { 0 = c.next_log-next.ensures i })) c.in_default.ensures.entered)

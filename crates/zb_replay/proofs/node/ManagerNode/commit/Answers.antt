@@ -1,10 +1,13 @@
 use Rattle.std.proofs.Common.{Err, Ok, None, arith, ap, refl, subst, sym, ◌∙◌, ◌≡◌}
+use Rattle.zb_entries.specs.declared.entry.Entry.{Entry}
+use Rattle.zb_journal.specs.Spelling.{size_of}
 use Rattle.zb_tables.specs.Taking.{MayCommit, commit_refusal}
 use Rattle.zb_manager.specs.Seen.{prepared_tables}
 use Rattle.zb_manager.proofs.Folding.{is_folded}
+use Rattle.zb_platter.specs.Changing.{HasPlace}
 use Rattle.zb_replay.specs.Nodes.{SeenNode}
 use Rattle.zb_replay.proofs.Leading.{commit_leads, has_number, refused_by, replies_kept}
-use Rattle.zb_replay.proofs.Under.{commit_less, entered_as, node_after, node_before, node_still, told_as}
+use Rattle.zb_replay.proofs.Under.{commit_less, entered_as, entered_same, lacked, node_after, node_before, node_still, placed_same, told_as}
 use Rattle.zb_replay.proofs.node.ManagerNode.commit.Goals as goal
 
 pub returns-in_err-prepared-clause-told : goal.returns-in_err-prepared-clause-told
@@ -57,3 +60,17 @@ returns-clause-replies g c =
     let made = c.in_ok-prepared.field-0.prepared in
     replies_kept z t c.apply.new.self.tables c.args.batch.now c.args.pieces.now made _ (subst (λ (s : SeenNode). MayCommit s.manager.sizes s.manager.tables c.args.batch.now c.args.pieces.now) (sym c.self.view_is) c.requires) c.in_ok-prepared.ensures.prepared
     (c.apply.ensures.tables ∙ (λ i. prepared_tables (c.drafted.ensures.same.sizes i).block (c.drafted.ensures.same.tables i) made)) c.in_ok-prepared.ensures.replies
+
+pub returns-in-Err-clause-placed : goal.returns-in-Err-clause-placed
+returns-in-Err-clause-placed g c = rw (← c.self.view_is) (placed_same _ _ _ _ c.drafted.ensures.same.tables c.in-Err.ensures.placed)
+
+pub returns-clause-entered : goal.returns-clause-entered
+returns-clause-entered g c = rw (← c.self.view_is) (entered_same _ _ _ _ _ _ c.drafted.ensures.same.tables c.in_ok-prepared.ensures.entry c.in_default.ensures.entered)
+
+pub returns-clause-written : goal.returns-clause-written
+returns-clause-written g c = rw (← c.self.view_is) (λ told has. c.in_default.ensures.written told (subst (λ (e : Entry). HasPlace c.self.inside.platter (size_of e)) (sym c.in_ok-prepared.ensures.entry) has))
+
+pub returns-in-Err-clause-lacking : goal.returns-in-Err-clause-lacking
+returns-in-Err-clause-lacking g c = rw (← c.self.view_is) (λ is has.
+    let fault = lacked c.in-Err.fault c.commit_fault.result c.commit_fault.ensures is in
+    c.enter.ensures.lacking (c.in-Err.is ∙ ap Err fault) (subst (λ (e : Entry). HasPlace c.self.inside.platter (size_of e)) (sym c.in_ok-prepared.ensures.entry) has))

@@ -1,0 +1,4 @@
+pub mod Reports
+pub mod Telling
+pub mod Resting
+pub mod Lines

@@ -1,5 +1,5 @@
-//! Tests of the plain values, of the spelling of numbers, deltas and batches, of the conflict table, of a client's log, and
-//! of blocks in stripes, and of the use of stripes.
+//! Tests of the plain values, of the spelling of numbers, deltas and batches, of the conflict table, of a client's log,
+//! and of the use of stripes.
 #![tactic(auto)]
 
 #[cfg(test)]

@@ -1,9 +1,7 @@
-//! Tests of scripts and reports and their texts, and of the world.
+//! Tests of scripts and reports and their texts.
 #![tactic(auto)]
 
 #[cfg(test)]
 mod report;
 #[cfg(test)]
 mod scripts;
-#[cfg(test)]
-mod world;

@@ -103,7 +103,7 @@ const ROWS: [Row; 24] = [
     (
         "run",
         b"zebra 1 servers 3 clients 3 fragment 256 block 64 slots 32\n+c1 create /a\n+c2 create /b\n+c3 mkdir /d\nstep c2 1000\nstep c1 to idle\nc2 list /\n",
-        b"c2 1 fid 1\nc1 1 fid 2\nc2 2 names a b\nc3 1 done\ndir /d\nfile /a 2 0\nfile /b 1 0\nend 0\n",
+        b"c2 1 fid 1\nc1 1 fid 2\nc2 2 names a b\nc3 1 done\nfile /a 2 0\nfile /b 1 0\ndir /d\nend 0\n",
         0,
     ),
     (
@@ -137,17 +137,16 @@ const ROWS: [Row; 24] = [
 ];
 
 /// The status of the run of `HELLO` in which this device call fails. The last number has no call.
-const FAULTS: [(u64, u8); 10] = [
+const FAULTS: [(u64, u8); 9] = [
     (1, 3),
     (2, 4),
     (3, 4),
     (4, 4),
     (5, 4),
-    (6, 4),
-    (7, 3),
+    (6, 3),
+    (7, 4),
     (8, 4),
-    (9, 4),
-    (10, 0),
+    (9, 0),
 ];
 
 fn run(alloc: Global, word: &str, script: &[u8], failing: &[u64]) -> Mem<(u8, MemOutside)> {
@@ -180,7 +179,7 @@ const BLOCKS: u32 = 128;
 /// A script that fills a file on so many servers, block by block, and then reads each block, and its report.
 fn many_stripes(alloc: Global, servers: u8) -> Mem<(String, String)> {
     let mut script = format!(in alloc;
-        "zebra 1 servers {servers} clients 1 fragment 256 block 64 slots 32\nc1 create /a\n"
+        "zebra 1 servers {servers} clients 1 fragment 256 block 64 slots 512\nc1 create /a\n"
     )?;
     let mut report = format!(in alloc; "c1 1 fid 1\n")?;
     for number in 0..BLOCKS {

@@ -1,0 +1,19 @@
+-- Lemmas on clients that have work one after the other.
+pub mod Numbers
+pub mod Counting
+pub mod Slots
+pub mod Placing
+pub mod Needing
+pub mod Paying
+pub mod Storing
+pub mod Resting
+pub mod Placed
+pub mod Moving
+pub mod Freshly
+pub mod Forming
+pub mod Filled
+pub mod Stepped
+pub mod Serving
+pub mod Replied
+pub mod Steps
+pub mod Giving

@@ -1,0 +1,5 @@
+pub mod Numbers
+pub mod Turning
+pub mod Weighing
+pub mod Storing
+pub mod Beginning

@@ -1,7 +1,8 @@
 -- A read whose server may be down.
-use Rattle.std.specs.Prelude.{◌≡◌, if◌then◌else◌, Option}
+use Rattle.std.specs.Prelude.{◌≡◌, if◌then◌else◌, List, Option}
 use Rattle.zb_types.specs.declared.ids.ServerId.{ServerId}
 use Rattle.zb_types.specs.declared.requests.Request.{Request}
+use Rattle.zb_types.specs.declared.requests.Request.TheVariants as ask
 use Rattle.zb_types.specs.declared.requests.Response.{Response}
 use Rattle.zb_types.specs.declared.requests.Response.TheVariants as told
 use Rattle.zb_holding.specs.Holding.{Maps, is_away}
@@ -10,7 +11,11 @@ use Rattle.zb_stripe.specs.Reading.{Reading, asked, fed}
 use Rattle.zb_stripe_laws.specs.ReadAtWork.{AnswersFrom}
 use Rattle.zb_plain.specs.Standing.{Entries, entries_of}
 use Rattle.zb_plain.specs.Answering.{answer_of}
-use Rattle.std.specs.Prelude.{List}
+
+-- a request for a range of a fragment
+abbrev pub IsRetrieve : Request → Type 0
+IsRetrieve (ask.Retrieve id place len) = Unit {0}
+IsRetrieve request = ⊥
 
 -- what a server answers, where the lost one is down
 abbrev pub answer_unless_lost : List Entries → Option ServerId → ServerId → Request → Response

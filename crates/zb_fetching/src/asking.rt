@@ -1,12 +1,10 @@
 ghost use Rattle.std.specs.Prelude.{◌≡◌, ℕ, List, ◌+◌, ◌-◌, ◌*◌, ◌<◌, ◌≤◌, length, take, drop, IsSome, IfOk};
-ghost use Rattle.zb_types.specs.declared.requests.Request.TheVariants as asking;
-ghost use Rattle.zb_types.specs.declared.ids.FragId.{FragId};
 ghost use Rattle.zb_holding.specs.Holding.{StripeHolds, view_of, is_away};
 ghost use Rattle.zb_stripe.specs.Reading.{asked};
 ghost use Rattle.zb_plain.specs.Standing.{maps_of};
 ghost use Rattle.zb_plain.specs.Answering.{MayAsk};
 ghost use Rattle.zb_plain.specs.Indexed.{AllFitIndex};
-ghost use Rattle.zb_fetching.specs.Feeding.{answer_unless_lost, IsFedUnlessLost};
+ghost use Rattle.zb_fetching.specs.Feeding.{answer_unless_lost, IsRetrieve, IsFedUnlessLost};
 
 use std::alloc::Global;
 use zb_plain::PlainServers;
@@ -34,7 +32,7 @@ fn answer(
 ) -> Mem<Response>
     requires may { MayAsk (length plain.old) (server, request.now) }
     ensures answer { IfOk result (λ answer. answer ≡ answer_unless_lost plain.old lost server request.now) }
-    ensures same { (id : FragId) (place len : ℕ) → request.now ≡ asking.Retrieve id place len → plain.new ≡ plain.old }
+    ensures same { IsRetrieve request.now → plain.new ≡ plain.old }
 {
     if is_lost(lost, server) {
         return Ok(Response::Down);

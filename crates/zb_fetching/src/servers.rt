@@ -47,6 +47,15 @@ fn end_in(held: &[HeldUse], log: LogId, stripe: u64) -> u32
     0
 }
 
+/// The list with one more stripe, before the others.
+fn with_first(held: HeldList, one: HeldUse) -> Mem<HeldList>
+    ensures { IfOk result (λ list. list ≡ one ∷ held) }
+{
+    let mut all = held.into_items();
+    all.insert(0, one)?;
+    Ok(HeldList::of(all))
+}
+
 /// Puts bytes behind others.
 fn extend(bytes: &mut ByteList, more: &[u8]) -> Mem<()>
     ensures { OnOk result (bytes.new ≡ bytes.old ++ more.now) }
@@ -106,28 +115,28 @@ impl StripeServers {
         requires some { 0 < length bytes.now }
         requires room { length bytes.now ≤ (self.geo.servers - 1) * self.geo.fragment }
         ensures geo { IfOk result (λ servers. servers.geo ≡ self.geo) }
-        ensures held { IfOk result (λ servers. servers.held ≡ self.held ++ record { log = log; stripe = stripe; end = length bytes.now; born = 0 } ∷ []) }
+        ensures held { IfOk result (λ servers. servers.held ≡ record { log = log; stripe = stripe; end = length bytes.now; born = 0 } ∷ self.held) }
         ensures lost { IfOk result (λ servers. servers.lost ≡ self.lost) }
         ensures bytes { IfOk result (λ servers. contents_of servers log stripe ≡ bytes.now) }
     {
         let StripeServers {
             geo,
             mut plain,
-            mut held,
+            held,
             lost,
         } = self;
         let fresh = first_bytes_of(alloc, &geo, log, stripe, bytes)?;
         plain.write(alloc, &geo, &fresh, Class::Client)?;
-        held.push(HeldUse {
+        let one = HeldUse {
             log,
             stripe,
             end: bytes.len() as u32,
             born: 0,
-        })?;
+        };
         Ok(StripeServers {
             geo,
             plain,
-            held,
+            held: with_first(held, one)?,
             lost,
         })
     }

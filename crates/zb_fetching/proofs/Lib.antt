@@ -1,2 +1,4 @@
 pub mod Asked
 pub mod Given
+pub mod Stored
+pub mod Lost

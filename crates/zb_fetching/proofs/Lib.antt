@@ -1,4 +1,5 @@
 pub mod Asked
 pub mod Given
-pub mod Stored
 pub mod Lost
+pub mod Pieced
+pub mod Stored

@@ -1,4 +1,4 @@
-ghost use Rattle.std.specs.Prelude.{◌≡◌, ℕ, List, ◌+◌, ◌-◌, ◌*◌, ◌<◌, ◌≤◌, length, take, drop, IsSome, IfOk};
+ghost use Rattle.std.specs.Prelude.{◌≡◌, ℕ, List, [], ◌+◌, ◌-◌, ◌*◌, ◌<◌, ◌≤◌, length, take, drop, IsSome, IfOk};
 ghost use Rattle.zb_holding.specs.Holding.{StripeHolds, view_of, is_away};
 ghost use Rattle.zb_stripe.specs.Reading.{asked};
 ghost use Rattle.zb_plain.specs.Standing.{maps_of};
@@ -105,6 +105,7 @@ pub(crate) fn read_range(
     ensures bytes { (end : ℕ) (bytes : List ℕ) → ptr.now.offset + ptr.now.len ≤ end
         → StripeHolds (view_of geo.now.servers geo.now.fragment (maps_of plain.old) lost) ptr.now.log ptr.now.stripe end bytes
         → IfOk result (λ got. got ≡ Got.Bytes (take ptr.now.len (drop ptr.now.offset bytes))) }
+    ensures none { ptr.now.len ≡ 0 → IfOk result (λ got. got ≡ Got.Bytes []) }
     ensures same { plain.new ≡ plain.old }
 {
     if ptr.len == 0 {

@@ -1,4 +1,4 @@
-ghost use Rattle.std.specs.Prelude.{◌≡◌, ◌⊎◌, ◌+◌, ◌-◌, ◌*◌, ◌<◌, ◌≤◌, ◌++◌, ◌∷◌, [], length, take, drop, Some, None, IfOk, OnOk, IsErrOf};
+ghost use Rattle.std.specs.Prelude.{◌≡◌, ◌⊎◌, ℕ, List, ◌+◌, ◌-◌, ◌*◌, ◌<◌, ◌≤◌, ◌++◌, ◌∷◌, [], length, take, drop, Some, None, Ok, Err, IfOk, OnOk, IsErrOf};
 ghost use Rattle.zb_types.specs.declared.ids.ServerId.{ServerId as Numbered};
 ghost use Rattle.zb_tables.specs.Tables.{end_at};
 ghost use Rattle.zb_tables.specs.Replay.{joined};
@@ -54,6 +54,18 @@ fn with_first(held: HeldList, one: HeldUse) -> Mem<HeldList>
     let mut all = held.into_items();
     all.insert(0, one)?;
     Ok(HeldList::of(all))
+}
+
+/// What a read comes to where bytes are asked for.
+fn bytes_of(read: Mem<Got>) -> Result<ByteList, PiecesFault>
+    ensures { (bytes : List ℕ) → IfOk read (λ got. got ≡ Got.Bytes bytes) → (result ≡ Ok bytes) ⊎ (result ≡ Err fault.NoMemory) }
+{
+    match read {
+        Ok(Got::Bytes(bytes)) => Ok(bytes),
+        Ok(Got::Unreachable { a, b }) => Err(PiecesFault::Unreachable { a, b }),
+        Ok(_) => Err(PiecesFault::Missing),
+        Err(_) => Err(PiecesFault::NoMemory),
+    }
 }
 
 /// Puts bytes behind others.
@@ -175,12 +187,8 @@ impl StripeServers {
             offset: piece.offset,
             len: piece.len,
         };
-        match read_range(alloc, &mut self.plain, self.lost, &self.geo, &ptr) {
-            Ok(Got::Bytes(bytes)) => Ok(bytes),
-            Ok(Got::Unreachable { a, b }) => Err(PiecesFault::Unreachable { a, b }),
-            Ok(_) => Err(PiecesFault::Missing),
-            Err(_) => Err(PiecesFault::NoMemory),
-        }
+        let read = read_range(alloc, &mut self.plain, self.lost, &self.geo, &ptr);
+        bytes_of(read)
     }
 
     /// The bytes of pieces of a log's stripes, one behind the other.

@@ -1,5 +1,6 @@
 -- A server that serves no longer.
-use Rattle.std.proofs.Common.{◌≡◌, ℕ, zero, suc, ◌-◌, ◌<◌, false, Option, Some, None, refl, sym, ap, ◌∙◌, subst, arith}
+use Rattle.std.proofs.Common.{◌≡◌, ℕ, zero, suc, ◌-◌, ◌/◌, ◌%◌, ◌<◌, false, List, length, take, Option, Some, None, refl, sym, ap, ◌∙◌, subst, arith}
+use Rattle.std.proofs.lemmas.List.FromFn.{length-map-range_with_len}
 use Rattle.zb_types.specs.declared.ids.LogId.{LogId}
 use Rattle.zb_types.specs.declared.ids.ServerId.{ServerId}
 use Rattle.zb_holding.specs.Holding.{View, view_of, StripeHolds, standing, away_at, is_away}
@@ -7,10 +8,9 @@ use Rattle.zb_plain.specs.Standing.{maps_of}
 use Rattle.zb_tables.specs.Tables.{end_at}
 use Rattle.zb_stripe_laws.proofs.Away.{away_once}
 use Rattle.zb_stripe_laws.proofs.Mended.{holds_away}
-use Rattle.zb_fetching.specs.Bytes.{given_bytes}
+use Rattle.zb_fetching.specs.Bytes.{given_byte, given_bytes}
 use Rattle.zb_fetching.specs.Stores.{SeenServers, IsSoundStore, IsHeld, view_at, contents_of}
 use Rattle.zb_fetching.proofs.Given.{given_are}
-use Rattle.std.specs.Prelude.{List, take}
 
 -- what servers give of a stripe that they hold are its first bytes
 pub given_held : (v : View) (log : LogId) (stripe end : ℕ) (bytes : List ℕ) → 1 < v.servers → 0 < v.fragment → StripeHolds v log stripe end bytes
@@ -18,6 +18,11 @@ pub given_held : (v : View) (log : LogId) (stripe end : ℕ) (bytes : List ℕ) 
 given_held v log stripe end bytes two pos holds =
     given_are (v.servers - 1) v.fragment (standing v.servers v.maps log stripe) (away_at v.servers v.away log stripe) end bytes
     (λ j k jn kn. away_once v.servers v.away log stripe j k (omega arith) (omega arith)) holds pos
+
+-- as many bytes are given as are committed
+pub given_long : (v : View) (log : LogId) (stripe end : ℕ) → length (given_bytes v log stripe end) ≡ end
+given_long v log stripe end =
+    length-map-range_with_len (λ i. given_byte (standing v.servers v.maps log stripe) (away_at v.servers v.away log stripe) (v.servers - 1) (i / v.fragment) (i % v.fragment)) 0 end
 
 -- the same servers, one of which serves no longer
 abbrev pub without_server : SeenServers → ServerId → SeenServers

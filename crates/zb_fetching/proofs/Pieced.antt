@@ -1,28 +1,19 @@
 -- A piece that is read.
-use Rattle.std.proofs.Common.{◌≡◌, ◌⊎◌, ℕ, zero, suc, ◌+◌, ◌-◌, ◌*◌, ◌/◌, ◌%◌, ◌<◌, ◌≤◌, List, [], length, take, drop, Result, Ok, Err, refl, sym, ap, ◌∙◌, subst, inl, inr, arith}
+use Rattle.std.proofs.Common.{◌≡◌, ◌⊎◌, ℕ, zero, suc, ◌+◌, ◌-◌, ◌*◌, ◌<◌, ◌≤◌, List, [], length, take, drop, Result, Ok, Err, refl, sym, ap, ◌∙◌, subst, inl, inr, arith}
 use Rattle.std.specs.Prelude.{IfOk, OnOk, IsErrOf}
 use Rattle.std.proofs.lemmas.List.{take-take}
-use Rattle.std.proofs.lemmas.List.FromFn.{length-map-range_with_len}
-use Rattle.std.proofs.lemmas.Result.{IfOk-weaker}
 use Rattle.zb_types.specs.declared.ids.LogId.{LogId}
 use Rattle.zb_types.specs.declared.ids.ServerId.{ServerId}
 use Rattle.zb_types.specs.declared.memory.NoMemory.{NoMemory}
-use Rattle.zb_holding.specs.Holding.{StripeHolds, standing, away_at}
-use Rattle.zb_plain.specs.Standing.{maps_of}
+use Rattle.zb_holding.specs.Holding.{StripeHolds}
 use Rattle.zb_stripe.specs.declared.read_plan.Got.{Got}
 use Rattle.zb_stripe.specs.declared.read_plan.Got.TheVariants as got
 use Rattle.zb_tables.specs.Tables.{end_at}
 use Rattle.zb_tables.proofs.Growing.{same_range}
 use Rattle.zb_replay.specs.declared.pieces.PiecesFault.{PiecesFault}
 use Rattle.zb_replay.specs.declared.pieces.PiecesFault.TheVariants as fault
-use Rattle.zb_fetching.specs.Bytes.{given_byte}
 use Rattle.zb_fetching.specs.Stores.{SeenServers, IsSoundStore, IsHeld, view_at, contents_of}
 use Rattle.zb_fetching.proofs.Lost.{given_held}
-
--- as many bytes are given as are committed
-pub long : (s : SeenServers) (log : LogId) (stripe : ℕ) → length (contents_of s log stripe) ≡ end_at s.held log stripe
-long s log stripe =
-    length-map-range_with_len (λ i. given_byte (standing s.geo.servers (maps_of s.kept) log stripe) (away_at s.geo.servers s.lost log stripe) (s.geo.servers - 1) (i / s.geo.fragment) (i % s.geo.fragment)) 0 (end_at s.held log stripe)
 
 module _ (s : SeenServers) (sound : IsSoundStore s) (log : LogId) (stripe offset len : ℕ) (within : offset + len ≤ end_at s.held log stripe) where
   -- the range lies in the stripe

@@ -99,15 +99,16 @@ module _ (s : SeenServers) (sound : IsSoundStore s) (log : LogId) (stripe : ℕ)
         (subst (λ (m : LogId). IsHeld (view_at with_stripe) m z (length bytes)) same.0
         (subst (λ (y : ℕ). IsHeld (view_at with_stripe) log y (length bytes)) same.1 (record { bytes = bytes; holds = holds_new })))
 
+    holds_still : (l : LogId) (z end : ℕ) (held : List ℕ) → is_of l z one ≡ false → StripeHolds (view_at s) l z end held → StripeHolds (view_at with_stripe) l z end held
+    holds_still l z end held other holds =
+        holds_seen (s.geo.servers - 1) s.geo.fragment (standing s.geo.servers (maps_of s.kept) l z) (standing s.geo.servers (maps_of kept) l z)
+        (away_at s.geo.servers s.lost l z) end held (λ k _. stands_still l z k other) holds
+
     held_still : (l : LogId) (z : ℕ) → is_of l z one ≡ false → 0 < end_at (one ∷ s.held) l z → IsHeld (view_at with_stripe) l z (end_at (one ∷ s.held) l z)
     held_still l z other much =
         let before = end_elsewhere l z other in
         let h = sound.held l z (subst (λ (e : ℕ). 0 < e) before much) in
-        subst (λ (e : ℕ). IsHeld (view_at with_stripe) l z e) (sym before) (record {
-          bytes = h.bytes;
-          holds = holds_seen (s.geo.servers - 1) s.geo.fragment (standing s.geo.servers (maps_of s.kept) l z) (standing s.geo.servers (maps_of kept) l z)
-              (away_at s.geo.servers s.lost l z) (end_at s.held l z) h.bytes (λ k _. stands_still l z k other) h.holds;
-        })
+        subst (λ (e : ℕ). IsHeld (view_at with_stripe) l z e) (sym before) (record { bytes = h.bytes; holds = holds_still l z (end_at s.held l z) h.bytes other h.holds })
 
     pub is_sound : IsSoundStore with_stripe
     is_sound = record {
@@ -133,3 +134,20 @@ module _ (s : SeenServers) (sound : IsSoundStore s) (log : LogId) (stripe : ℕ)
         ap (given_bytes (view_at with_stripe) log stripe) (end_here log stripe here)
         ∙ given_held (view_at with_stripe) log stripe (length bytes) bytes (omega arith) (omega arith) holds_new
         ∙ take_all (length bytes) bytes (omega arith)
+
+    -- and of each other stripe what they gave
+    pub has_others : (l : LogId) (z : ℕ) → 0 < end_at s.held l z → contents_of with_stripe l z ≡ contents_of s l z
+    has_others l z much =
+        let low = s.geo.limits.servers_low in
+        let some = s.geo.limits.fragment_low in
+        let h = sound.held l z much in
+        let end = end_at s.held l z in
+        elim (cases_Bool (is_of l z one)) [
+          | inl is ↦
+              let same = same_stripe l z is in
+              absurd (omega (arith, much, new, ap (λ (m : LogId). end_at s.held m z) same.0, ap (λ (y : ℕ). end_at s.held log y) same.1))
+          | inr other ↦
+              ap (given_bytes (view_at with_stripe) l z) (end_elsewhere l z other)
+              ∙ given_held (view_at with_stripe) l z end h.bytes (omega arith) (omega arith) (holds_still l z end h.bytes other h.holds)
+              ∙ sym (given_held (view_at s) l z end h.bytes (omega arith) (omega arith) h.holds)
+        ]

@@ -1,4 +1,5 @@
 ghost use Rattle.std.specs.Prelude.{◌≡◌, ◌⊎◌, ℕ, List, ◌+◌, ◌-◌, ◌*◌, ◌<◌, ◌≤◌, ◌++◌, ◌∷◌, [], length, take, drop, Some, None, Ok, Err, IfOk, OnOk, IsErrOf};
+ghost use Rattle.zb_types.specs.declared.ids.LogId.{LogId as Logged};
 ghost use Rattle.zb_types.specs.declared.ids.ServerId.{ServerId as Numbered};
 ghost use Rattle.zb_tables.specs.Tables.{end_at};
 ghost use Rattle.zb_tables.specs.Replay.{joined};
@@ -93,7 +94,8 @@ impl StripeServers {
         })
     }
 
-    /// These servers, of which those that serve hold each stripe up to its committed end. One at most doesn't serve.
+    /// These servers, of which those that serve hold each stripe up to its committed end. One at most doesn't serve, and
+    /// nothing stands of any other stripe.
     pub fn of(geo: &Geometry, plain: PlainServers, held: HeldList, lost: Option<ServerId>) -> StripeServers
         requires { IsSoundStore (record { geo = geo.now; kept = plain; held = held; lost = lost }) }
         ensures { result ≡ record { geo = geo.now; kept = plain; held = held; lost = lost } }
@@ -130,6 +132,7 @@ impl StripeServers {
         ensures held { IfOk result (λ servers. servers.held ≡ record { log = log; stripe = stripe; end = length bytes.now; born = 0 } ∷ self.held) }
         ensures lost { IfOk result (λ servers. servers.lost ≡ self.lost) }
         ensures bytes { IfOk result (λ servers. contents_of servers log stripe ≡ bytes.now) }
+        ensures others { IfOk result (λ servers. (other : Logged) (place : ℕ) → 0 < end_at self.held other place → contents_of servers other place ≡ contents_of self other place) }
     {
         let StripeServers {
             geo,

@@ -1,8 +1,9 @@
 use Rattle.std.proofs.Common.{◌≡◌, ◌+◌, ◌<◌, ◌≤◌, List, ℕ, length, take, drop, ap, sym, subst, ◌∙◌, arith}
 use Rattle.zb_types.specs.declared.tables.HeldUse.{HeldUse}
 use Rattle.zb_tables.specs.Tables.{end_at}
-use Rattle.zb_fetching.specs.Stores.{SeenServers, contents_of}
-use Rattle.zb_fetching.proofs.Pieced.{IsTold, has_room, long, ok_where, read_is, told_bytes, no_missing, no_unreachable}
+use Rattle.zb_fetching.specs.Stores.{SeenServers, view_at, contents_of}
+use Rattle.zb_fetching.proofs.Lost.{given_long}
+use Rattle.zb_fetching.proofs.Pieced.{IsTold, ok_where, read_is, told_bytes, no_missing, no_unreachable}
 use Rattle.zb_fetching.proofs.servers.StripeServers.read_piece.Goals as goal
 
 -- the servers, by their fields
@@ -23,7 +24,7 @@ pub returns-then-from-clause-missing : goal.returns-then-from-clause-missing
 returns-then-from-clause-missing c is =
     let end = c.end_in-end.ensures ∙ ap (λ (held : List HeldUse). end_at held c.args.log c.args.piece.now.stripe) c.slice.ensures in
     let same = ap (λ (s : SeenServers). end_at s.held c.args.log c.args.piece.now.stripe) c.self.view_is in
-    omega (arith, long c.args.self.now c.args.log c.args.piece.now.stripe, end, same, c.from.ensures, c.from-2.ensures, c.from-3.ensures, c.if-from.true)
+    omega (arith, given_long (view_at c.args.self.now) c.args.log c.args.piece.now.stripe (end_at c.args.self.now.held c.args.log c.args.piece.now.stripe), end, same, c.from.ensures, c.from-2.ensures, c.from-3.ensures, c.if-from.true)
 
 pub returns-clause-bytes : goal.returns-clause-bytes
 returns-clause-bytes c = rw (← c.self.view_is) (told_bytes c.bytes_of.result _ (told c))
@@ -34,7 +35,7 @@ returns-clause-missing c is = absurd (no_missing c.bytes_of.result _ (told c) is
 pub returns-clause-present : goal.returns-clause-present
 returns-clause-present c =
     let same = ap (λ (s : SeenServers). end_at s.held c.args.log c.args.piece.now.stripe) c.self.view_is in
-    ok_where c.bytes_of.result (omega (arith, within c, same, long c.args.self.now c.args.log c.args.piece.now.stripe))
+    ok_where c.bytes_of.result (omega (arith, within c, same, given_long (view_at c.args.self.now) c.args.log c.args.piece.now.stripe (end_at c.args.self.now.held c.args.log c.args.piece.now.stripe)))
 
 pub returns-clause-served : goal.returns-clause-served
 returns-clause-served c a b is = no_unreachable c.bytes_of.result _ a b (told c) is

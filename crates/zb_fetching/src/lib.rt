@@ -6,7 +6,6 @@ mod fetching;
 mod laws;
 mod servers;
 mod storing;
-
 #[cfg(test)]
 mod tests;
 

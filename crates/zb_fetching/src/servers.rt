@@ -96,7 +96,12 @@ impl StripeServers {
 
     /// These servers, of which those that serve hold each stripe up to its committed end. One at most doesn't serve, and
     /// nothing stands of any other stripe.
-    pub fn of(geo: &Geometry, plain: PlainServers, held: HeldList, lost: Option<ServerId>) -> StripeServers
+    pub fn of(
+        geo: &Geometry,
+        plain: PlainServers,
+        held: HeldList,
+        lost: Option<ServerId>,
+    ) -> StripeServers
         requires { IsSoundStore (record { geo = geo.now; kept = plain; held = held; lost = lost }) }
         ensures { result ≡ record { geo = geo.now; kept = plain; held = held; lost = lost } }
     {

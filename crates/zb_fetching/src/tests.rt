@@ -27,7 +27,15 @@ fn pieces_are_read_with_any_server_lost(rt: HostRuntime) -> Result<(), Fail> {
     let geo = Geometry::new(3, 1, 256, 64, 32)?;
     let bytes = pattern(rt.alloc(), 512)?;
     let cases = [
-        (0, 0, 300), (0, 250, 10), (0, 0, 0), (0, 300, 0), (0, 280, 20), (0, 255, 2), (2, 0, 512), (2, 3, 0), (2, 100, 400),
+        (0, 0, 300),
+        (0, 250, 10),
+        (0, 0, 0),
+        (0, 300, 0),
+        (0, 280, 20),
+        (0, 255, 2),
+        (2, 0, 512),
+        (2, 3, 0),
+        (2, 100, 400),
     ];
     for server in 0..4 {
         let mut servers = StripeServers::new(rt.alloc(), &geo)?;
@@ -41,7 +49,10 @@ fn pieces_are_read_with_any_server_lost(rt: HostRuntime) -> Result<(), Fail> {
             match servers.read_pieces(rt.alloc(), LOG, &pieces) {
                 Ok(found) => {
                     assert_eq!(rt; found.slice().len(), len as usize + 1);
-                    assert_eq!(rt; found.slice()[..len as usize], bytes.as_slice()[offset as usize..(offset + len) as usize]);
+                    assert_eq!(rt;
+                        found.slice()[..len as usize],
+                        bytes.as_slice()[offset as usize..(offset + len) as usize]
+                    );
                     assert_eq!(rt; found.slice()[len as usize], 48);
                 }
                 Err(_) => assert!(rt; false, "{server} {stripe} {offset} {len}"),

@@ -1,5 +1,5 @@
 -- What the servers give of a stripe that they hold.
-use Rattle.std.proofs.Common.{◌≡◌, ◌≢◌, ℕ, ◌+◌, ◌*◌, ◌/◌, ◌%◌, ◌<◌, ◌≤◌, Bool, true, false, cond, eqb, List, [], length, take, drop, get_or, Option, Some, None, bit_xor, sym, ap, ◌∙◌, subst, refl, inl, inr, arith}
+use Rattle.std.proofs.Common.{◌≡◌, ℕ, ◌+◌, ◌*◌, ◌/◌, ◌%◌, ◌<◌, ◌≤◌, Bool, true, false, cond, eqb, List, [], length, take, drop, get_or, Option, Some, None, bit_xor, sym, ap, ◌∙◌, refl, inl, inr, arith}
 use Rattle.std.proofs.lemmas.Bool.{cases_Bool, eq-eqb, false≢true}
 use Rattle.std.proofs.lemmas.Nat.{div-add-mod', mod_below, div_below}
 use Rattle.std.proofs.lemmas.List.{get_or-take, get_or-drop, length-take-le, take-take, ext_get_or}
@@ -8,7 +8,7 @@ use Rattle.zb_types.specs.Bytes.{first_bytes}
 use Rattle.zb_holding.specs.Fragments.{Fragment, share_fragment, parity_fragment}
 use Rattle.zb_holding.specs.Placing.{share_length, share_of}
 use Rattle.zb_holding.specs.Exclusive.{xor_at}
-use Rattle.zb_holding.specs.Holding.{share_bytes, Begins, covered, CoversShares, ParityHolds, FragmentsHold}
+use Rattle.zb_holding.specs.Holding.{share_bytes, Begins, covered, ParityHolds, FragmentsHold}
 use Rattle.zb_holding.proofs.Exclusives.{xor_same, xor_without, without}
 use Rattle.zb_stripe_laws.specs.Restoring.{cut_to, lengths_in}
 use Rattle.zb_stripe_laws.proofs.Agreeing.{begins_at}

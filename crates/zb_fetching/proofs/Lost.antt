@@ -1,9 +1,9 @@
 -- A server that serves no longer.
-use Rattle.std.proofs.Common.{◌≡◌, ℕ, zero, suc, ◌-◌, ◌/◌, ◌%◌, ◌<◌, false, List, length, take, Option, Some, None, refl, sym, ap, ◌∙◌, subst, arith}
+use Rattle.std.proofs.Common.{◌≡◌, ℕ, zero, suc, ◌-◌, ◌/◌, ◌%◌, ◌<◌, false, List, length, take, Option, Some, None, refl, sym, ap, ◌∙◌, arith}
 use Rattle.std.proofs.lemmas.List.FromFn.{length-map-range_with_len}
 use Rattle.zb_types.specs.declared.ids.LogId.{LogId}
 use Rattle.zb_types.specs.declared.ids.ServerId.{ServerId}
-use Rattle.zb_holding.specs.Holding.{View, view_of, StripeHolds, standing, away_at, is_away}
+use Rattle.zb_holding.specs.Holding.{View, StripeHolds, standing, away_at, is_away}
 use Rattle.zb_plain.specs.Standing.{maps_of}
 use Rattle.zb_tables.specs.Tables.{end_at}
 use Rattle.zb_stripe_laws.proofs.Away.{away_once}

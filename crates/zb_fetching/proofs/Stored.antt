@@ -1,7 +1,7 @@
 -- A stripe that is stored.
-use Rattle.std.proofs.Common.{◌≡◌, ◌≢◌, ◌⊎◌, ℕ, ◌+◌, ◌-◌, ◌*◌, ◌<◌, ◌≤◌, Bool, true, false, cond, eqb, List, [], ◌∷◌, ◌++◌, length, take, Option, Some, None, refl, sym, ap, ◌∙◌, subst, inl, inr, arith}
-use Rattle.std.specs.Prelude.{◌&&◌, All}
-use Rattle.std.proofs.lemmas.Bool.{cases_Bool, and_parts, eqb-true, eqb-false, eq-eqb, false≢true}
+use Rattle.std.proofs.Common.{◌≡◌, ◌≢◌, ◌⊎◌, ℕ, ◌-◌, ◌*◌, ◌<◌, ◌≤◌, true, false, cond, eqb, List, [], ◌∷◌, length, Option, Some, None, refl, sym, ap, ◌∙◌, subst, inl, inr, arith}
+use Rattle.std.specs.Prelude.{◌&&◌}
+use Rattle.std.proofs.lemmas.Bool.{cases_Bool, and_parts, eqb-true, eqb-false}
 use Rattle.std.proofs.lemmas.List.{take_all, append-nil}
 use Rattle.std.proofs.lemmas.List.Elements.{All-nil, All-cons}
 use Rattle.zb_types.specs.declared.ids.LogId.{LogId}
@@ -9,14 +9,13 @@ use Rattle.zb_types.specs.declared.ids.ServerId.{ServerId}
 use Rattle.zb_types.specs.declared.nodes.Class.{Class}
 use Rattle.zb_types.specs.declared.requests.Request.{Request}
 use Rattle.zb_types.specs.declared.tables.HeldUse.{HeldUse}
-use Rattle.zb_holding.specs.Holding.{View, view_of, StripeHolds, standing, away_at}
+use Rattle.zb_holding.specs.Holding.{view_of, StripeHolds, standing, away_at}
 use Rattle.zb_holding.specs.Carrying.{carried_all}
 use Rattle.zb_stripe.specs.declared.flush.Part.{Part}
-use Rattle.zb_stripe.specs.declared.flush.Flush.{Flush}
 use Rattle.zb_stripe.specs.declared.flush.FreshFlush.{FreshFlush}
 use Rattle.zb_stripe.specs.Fresh.{IsFreshFlush}
 use Rattle.zb_stripe.specs.Writing.{part_requests, plan_requests}
-use Rattle.zb_stripe_laws.specs.PartAtWork.{IsSpared, IsUnwritten, MayBegin, AreElsewhere}
+use Rattle.zb_stripe_laws.specs.PartAtWork.{IsSpared, MayBegin, AreElsewhere}
 use Rattle.zb_stripe_laws.proofs.Keeping.{fresh_law}
 use Rattle.zb_stripe_laws.proofs.Seeing.{holds_seen}
 use Rattle.zb_stripe_laws.proofs.Working.{elsewhere_stays}
@@ -27,7 +26,7 @@ use Rattle.zb_plain.proofs.Indexing.{plan_fits_index}
 use Rattle.zb_tables.specs.Tables.{is_of, held_at, end_of, end_at}
 use Rattle.zb_tables.proofs.Holding.{same_log}
 use Rattle.zb_fetching.specs.Bytes.{given_bytes}
-use Rattle.zb_fetching.specs.Stores.{SeenServers, IsSoundStore, IsHeld, HasNothing, view_at, contents_of, first_flush}
+use Rattle.zb_fetching.specs.Stores.{SeenServers, IsSoundStore, IsHeld, view_at, contents_of, first_flush}
 use Rattle.zb_fetching.proofs.Lost.{given_held}
 
 -- a server that is lost needn't be left away

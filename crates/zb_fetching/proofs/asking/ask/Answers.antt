@@ -1,4 +1,4 @@
-use Rattle.std.proofs.Common.{refl, sym, subst}
+use Rattle.std.proofs.Common.{sym, subst}
 use Rattle.zb_stripe.specs.Reading.{Answers, asked}
 use Rattle.zb_stripe_laws.specs.ReadAtWork.{AnswersFrom}
 use Rattle.zb_plain.specs.Standing.{maps_of}

@@ -1,5 +1,4 @@
 use Rattle.std.proofs.Common.{◌∷◌, ◌++◌, [], List, ℕ, refl, sym, ap, ◌∙◌, subst}
-use Rattle.zb_stripe.specs.declared.flush.Part.{Part}
 use Rattle.zb_stripe.specs.declared.flush.Fresh.{Fresh}
 use Rattle.zb_stripe.specs.Fresh.{IsFresh, AreFresh}
 use Rattle.zb_fetching.specs.Stores.{first_flush}

@@ -1,4 +1,4 @@
-use Rattle.std.proofs.Common.{◌≡◌, ◌+◌, ◌<◌, ◌≤◌, List, ℕ, length, take, drop, ap, sym, subst, ◌∙◌, arith}
+use Rattle.std.proofs.Common.{◌+◌, ◌≤◌, List, take, drop, ap, ◌∙◌, arith}
 use Rattle.zb_types.specs.declared.tables.HeldUse.{HeldUse}
 use Rattle.zb_tables.specs.Tables.{end_at}
 use Rattle.zb_fetching.specs.Stores.{SeenServers, view_at, contents_of}

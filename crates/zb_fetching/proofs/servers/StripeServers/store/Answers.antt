@@ -1,4 +1,4 @@
-use Rattle.std.proofs.Common.{◌≡◌, ◌+◌, ◌-◌, ◌*◌, ◌<◌, ◌≤◌, List, length, ap, subst, sym, ◌∙◌}
+use Rattle.std.proofs.Common.{◌≡◌, ◌-◌, ◌*◌, ◌<◌, ◌≤◌, List, length, ap, subst, sym, ◌∙◌}
 use Rattle.zb_types.specs.declared.nodes.Class.TheVariants.{Client}
 use Rattle.zb_types.specs.declared.tables.HeldUse.{HeldUse}
 use Rattle.zb_plain.specs.Standing.{Entries}

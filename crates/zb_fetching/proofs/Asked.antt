@@ -105,9 +105,6 @@ pub record IsRead (maps : Maps) (lost : Option ServerId) (first now : Reading) (
   pub long : length answers ≡ count
   pub asks : Asks now
 
-pub not_read : (maps : Maps) (lost : Option ServerId) (first now : Reading) → now ≡ first → Asks first → IsRead maps lost first now 0
-not_read maps lost first now is asks = record { answers = []; all = tt; lead = is; long = refl; asks = subst Asks (sym is) asks }
-
 module _ (maps : Maps) (lost : Option ServerId) (first now next : Reading) (g : Got) (count : ℕ) (read : IsRead maps lost first now count) (one : IsFedUnlessLost maps lost now next g) where
   pub all_answer : AllAnswer maps lost lost first (read.answers ++ one.answer ∷ [])
   all_answer = all_and_one maps lost lost first now read.answers one.answer read.all read.lead one.from

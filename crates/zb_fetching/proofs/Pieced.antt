@@ -1,5 +1,5 @@
 -- A piece that is read.
-use Rattle.std.proofs.Common.{◌≡◌, ◌⊎◌, ℕ, zero, suc, ◌+◌, ◌-◌, ◌*◌, ◌<◌, ◌≤◌, List, [], take, drop, Result, Ok, Err, refl, sym, ap, ◌∙◌, subst, inl, inr, arith}
+use Rattle.std.proofs.Common.{◌≡◌, ◌⊎◌, ℕ, zero, suc, ◌+◌, ◌≤◌, List, [], take, drop, Result, Ok, Err, refl, sym, ap, ◌∙◌, subst, inl, inr, arith}
 use Rattle.std.specs.Prelude.{IfOk, OnOk, IsErrOf}
 use Rattle.std.proofs.lemmas.List.{take-take}
 use Rattle.zb_types.specs.declared.ids.LogId.{LogId}
@@ -12,22 +12,10 @@ use Rattle.zb_tables.specs.Tables.{end_at}
 use Rattle.zb_tables.proofs.Growing.{same_range}
 use Rattle.zb_replay.specs.declared.pieces.PiecesFault.{PiecesFault}
 use Rattle.zb_replay.specs.declared.pieces.PiecesFault.TheVariants as fault
-use Rattle.zb_fetching.specs.Stores.{SeenServers, IsSoundStore, IsHeld, view_at, contents_of}
+use Rattle.zb_fetching.specs.Stores.{SeenServers, IsSoundStore, view_at, contents_of}
 use Rattle.zb_fetching.proofs.Lost.{given_held}
 
 module _ (s : SeenServers) (sound : IsSoundStore s) (log : LogId) (stripe offset len : ℕ) (within : offset + len ≤ end_at s.held log stripe) where
-  -- the range lies in the stripe
-  pub has_room : offset + len ≤ (s.geo.servers - 1) * s.geo.fragment
-  has_room = by (end_at s.held log stripe) within (sound.held log stripe)
-    where
-      by : (end : ℕ) → offset + len ≤ end → (0 < end → IsHeld (view_at s) log stripe end) → offset + len ≤ (s.geo.servers - 1) * s.geo.fragment
-      by zero le held = omega arith
-      by (suc end) le held =
-          let h = (held (omega arith)).holds in
-          let whole = h.whole in
-          let room = h.room in
-          omega arith
-
   -- its bytes are those that are given
   same_bytes : (bytes : List ℕ) → StripeHolds (view_at s) log stripe (end_at s.held log stripe) bytes → take len (drop offset bytes) ≡ take len (drop offset (contents_of s log stripe))
   same_bytes bytes holds =

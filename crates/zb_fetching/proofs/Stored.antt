@@ -1,5 +1,5 @@
 -- A stripe that is stored.
-use Rattle.std.proofs.Common.{◌≡◌, ◌≢◌, ◌⊎◌, ℕ, ◌-◌, ◌*◌, ◌<◌, ◌≤◌, true, false, cond, eqb, List, [], ◌∷◌, length, Option, Some, None, refl, sym, ap, ◌∙◌, subst, inl, inr, arith}
+use Rattle.std.proofs.Common.{◌≡◌, ◌≢◌, ◌⊎◌, ℕ, ◌-◌, ◌*◌, ◌<◌, ◌≤◌, true, false, cond, eqb, List, [], ◌∷◌, length, Some, None, refl, sym, ap, ◌∙◌, subst, inl, inr, arith}
 use Rattle.std.specs.Prelude.{◌&&◌}
 use Rattle.std.proofs.lemmas.Bool.{cases_Bool, and_parts, eqb-true, eqb-false}
 use Rattle.std.proofs.lemmas.List.{take_all, append-nil}
@@ -15,7 +15,7 @@ use Rattle.zb_stripe.specs.declared.flush.Part.{Part}
 use Rattle.zb_stripe.specs.declared.flush.FreshFlush.{FreshFlush}
 use Rattle.zb_stripe.specs.Fresh.{IsFreshFlush}
 use Rattle.zb_stripe.specs.Writing.{part_requests, plan_requests}
-use Rattle.zb_stripe_laws.specs.PartAtWork.{IsSpared, MayBegin, AreElsewhere}
+use Rattle.zb_stripe_laws.specs.PartAtWork.{MayBegin, AreElsewhere}
 use Rattle.zb_stripe_laws.proofs.Keeping.{fresh_law}
 use Rattle.zb_stripe_laws.proofs.Seeing.{holds_seen}
 use Rattle.zb_stripe_laws.proofs.Working.{elsewhere_stays}
@@ -28,10 +28,6 @@ use Rattle.zb_tables.proofs.Holding.{same_log}
 use Rattle.zb_fetching.specs.Bytes.{given_bytes}
 use Rattle.zb_fetching.specs.Stores.{SeenServers, IsSoundStore, IsHeld, view_at, contents_of, first_flush}
 use Rattle.zb_fetching.proofs.Lost.{given_held}
-
--- a server that is lost needn't be left away
-spared : (lost : Option ServerId) → IsSpared None lost
-spared lost = tt
 
 module _ (s : SeenServers) (sound : IsSoundStore s) (log : LogId) (stripe : ℕ) (bytes : List ℕ) (class : Class)
     (new : end_at s.held log stripe ≡ 0) (some : 0 < length bytes) (room : length bytes ≤ (s.geo.servers - 1) * s.geo.fragment) where

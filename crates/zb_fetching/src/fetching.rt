@@ -7,7 +7,8 @@ use zb_outside::Bay;
 use zb_replay::{PiecesFault, ReadPieces};
 use zb_types::{ByteList, Geometry, LogId, Members, Piece};
 
-/// Reads the pieces by the servers' own sizes, and without a look at the members: which server doesn't serve is known.
+/// Reads the pieces by the servers' own sizes, and without a look at the bay and the members: which server doesn't serve is
+/// known here. `Unreachable` never comes.
 impl<B: Bay> ReadPieces<B> for StripeServers {
     ghost contents = { λ servers bay. contents_of servers };
 

@@ -4,7 +4,7 @@ use Rattle.std.specs.Prelude.{is_some, replicate, slice_index_or, slice_set}
 use Rattle.std.specs.List.{flat_map}
 use Rattle.std.proofs.lemmas.Bool.{cond-true, eq-eqb, true≢false}
 use Rattle.std.proofs.lemmas.List.Sums.{sum_by-append, sum_by-cons}
-use Rattle.std.proofs.lemmas.Option.{same_Some}
+use Rattle.std.proofs.lemmas.Option.{none-some, same_Some}
 use Rattle.zb_types.specs.declared.calls.Call.{Call}
 use Rattle.zb_types.specs.declared.geometry.Geometry.{Geometry}
 use Rattle.zb_types.specs.declared.ids.ServerId.{ServerId}
@@ -18,11 +18,11 @@ use Rattle.zb_given.specs.Given.{Given, Item, call_by, calls_of, none_given, wit
 use Rattle.zb_manager.specs.Managers.{sizes_of}
 use Rattle.zb_servers.specs.Standing.{SeenServer, SeenServers, empty_server, has, maps_of, server_at, stands_in}
 use Rattle.zb_basis.specs.declared.calls.Numbered.{Numbered}
-use Rattle.zb_work.specs.declared.work.Aim.TheVariants.{Finish}
+use Rattle.zb_work.specs.declared.work.Aim.TheVariants.{Finish, Read}
 use Rattle.zb_work.specs.declared.work.Flushed.{Flushed}
 use Rattle.zb_work.specs.declared.work.Step.{Step}
 use Rattle.zb_work.specs.declared.work.Step.TheVariants.{Lookup}
-use Rattle.zb_work.specs.Steps.{new_task, step_of}
+use Rattle.zb_work.specs.Steps.{aim_of, new_task, step_of}
 use Rattle.zb_client.specs.Seen.{SeenClient, first_client, kind_of, unready}
 use Rattle.zb_line_laws.specs.Calls.{queues}
 use Rattle.zb_progress.specs.Fresh.{is_fresh}
@@ -36,7 +36,7 @@ use Rattle.zb_finishing.proofs.Resting.{idle_rests}
 use Rattle.zb_need.specs.Filling.{HalfFull, stripes_begun}
 use Rattle.zb_ample.specs.Reaching.{IsPaid, LogGoesOn, ahead_at, begun_by, load, loads, numbered_loads, reached, reached_at}
 use Rattle.zb_ample.specs.Taking.{Belongs, SlotsAreTaken}
-use Rattle.zb_ample.specs.Turning.{InTurn}
+use Rattle.zb_ample.specs.Turning.{InTurn, ReadsFirst}
 use Rattle.zb_ample.proofs.Filled.{begun_grows}
 use Rattle.zb_ample.proofs.Freshly.{lookup_fresh}
 use Rattle.zb_ample.proofs.Paying.{loads_both}
@@ -68,6 +68,7 @@ module _ (geo : Geometry) (n : SeenNodes) (a : AreFirst n) (sizes : n.manager.si
     who = 0;
     alone = λ j ne c is. ap kind_of (a.clients j c is);
     fresh = λ c is. subst (λ (d : SeenClient). is_fresh n.manager.tables d ≡ true) (sym (a.clients 0 c is)) (lookup_fresh n.manager.tables (First 0) refl);
+    reads = λ c is. subst ReadsFirst (sym (a.clients 0 c is)) (λ e. absurd (none-some Read e));
     logs = record {
       logs = λ i c is. ap (λ (d : SeenClient). d.log.log.0) (a.clients i c is);
       rooms = λ i c is. ap (λ (d : SeenClient). d.log.room) (a.clients i c is) ∙ ap (λ z. (z.servers - 1) * z.fragment) sizes;
@@ -132,7 +133,7 @@ module _ (geo : Geometry) where
     last k = sum_by-cons (λ (x : Numbered). load geo x.call) k [] ∙ omega arith
 
 module _ {geo : Geometry} {given : Given} {n : SeenNodes} (t : InTurn geo given n) (i : ℕ) (c d : SeenClient) (is : IsClient n i c)
-    (log_is : d.log ≡ c.log) (flushed : d.flushed ≡ c.flushed) (idle : kind_of c ≡ Idle) (at : step_of d.task ≡ Lookup) where
+    (log_is : d.log ≡ c.log) (flushed : d.flushed ≡ c.flushed) (idle : kind_of c ≡ Idle) (at : step_of d.task ≡ Lookup) (reads : ReadsFirst d) where
   abbrev Now : SeenNodes
   Now = with_client n i d
 
@@ -154,6 +155,7 @@ module _ {geo : Geometry} {given : Given} {n : SeenNodes} (t : InTurn geo given 
     who = i;
     alone = λ j ne x there. all_idle j x (sym (set_others n Now i d refl j ne) ∙ there);
     fresh = λ x there. subst (λ (y : SeenClient). is_fresh n.manager.tables y ≡ true) (same_Some d x (sym (set_is n Now i c d is refl) ∙ there)) (lookup_fresh n.manager.tables d at);
+    reads = λ x there. subst ReadsFirst (same_Some d x (sym (set_is n Now i c d is refl) ∙ there)) reads;
     logs = record {
       logs = λ j. set_at (λ (x : SeenClient). x.log.log.0 ≡ j + 1) n Now i c d is refl j (λ same. ap (λ (l : SeenLog). l.log.0) log_is ∙ t.logs.logs i c is ∙ ap (λ (k : ℕ). k + 1) (sym same)) (λ _. t.logs.logs j);
       rooms = λ j. set_at (λ (x : SeenClient). x.log.room ≡ (geo.servers - 1) * geo.fragment) n Now i c d is refl j (λ _. ap (λ (l : SeenLog). l.room) log_is ∙ t.logs.rooms i c is) (λ _. t.logs.rooms j);
@@ -175,7 +177,7 @@ pub call_turns : {geo : Geometry} {given : Given} {lines : List Outcome} {n : Se
 call_turns {geo = geo} {given = given} {n = n} s t i c call place is idle =
     let own : c.client ≡ i + 1 = (s.clients i c is).1 in
     let at : step_of c.task ≡ Lookup = ap step_of (idle_rests c (idle i c is)).0 in
-    work_turns t i c (queues given c call) is refl refl (idle i c is) at (with_item given (CallLine true (i + 1) call) place) idle
+    work_turns t i c (queues given c call) is refl refl (idle i c is) at (λ e. absurd (none-some Read (sym (ap aim_of (idle_rests c (idle i c is)).0) ∙ e))) (with_item given (CallLine true (i + 1) call) place) idle
     (λ j x there. paid_more geo given (CallLine true (i + 1) call) place x (t.logs.paid j x there))
     (subst (λ (k : ℕ). IsPaid geo (with_item given (CallLine true k call) place) (queues given c call)) own (paid_call geo given place c call at (t.logs.paid i c is)))
 
@@ -185,7 +187,7 @@ pub flush_turns : {geo : Geometry} {given : Given} {n : SeenNodes} (t : InTurn g
 flush_turns {geo = geo} {given = given} t i c is idle =
     let at : step_of c.task ≡ Lookup = ap step_of (idle_rests c (idle i c is)).0 in
     let p = t.logs.paid i c is in
-    work_turns t i c (record (unready c) { task = new_task Finish }) is refl refl (idle i c is) refl given idle t.logs.paid
+    work_turns t i c (record (unready c) { task = new_task Finish }) is refl refl (idle i c is) refl (λ e. absurd (cc e)) given idle t.logs.paid
     (record {
       bytes = p.bytes;
       half = subst (λ (st : Step). HalfFull c.log.room (reached_at c.log st) p.bytes) at p.half;
@@ -201,6 +203,7 @@ finish_turns t place = record {
   who = t.who;
   alone = t.alone;
   fresh = t.fresh;
+  reads = t.reads;
   logs = record { logs = t.logs.logs; rooms = t.logs.rooms; go_on = t.logs.go_on; paid = λ i c is. let p = t.logs.paid i c is in record { bytes = p.bytes; half = p.half; within = p.within; paid = p.paid } };
   servers = t.servers;
 }
@@ -214,6 +217,7 @@ ready_turns {geo = geo} {given = given} {old = old} t new i r = record {
   alone = λ j ne. at (λ (x : SeenClient). kind_of x ≡ Idle) (λ idle. idle) j (t.alone j ne);
   fresh = subst (λ (tables : Tables). (c : SeenClient) → IsClient new t.who c → is_fresh tables c ≡ true) (sym r.manager.tables)
       (at (λ (x : SeenClient). is_fresh old.manager.tables x ≡ true) (λ now. now) t.who t.fresh);
+  reads = at ReadsFirst (λ first. first) t.who t.reads;
   logs = record {
     logs = λ j. at (λ (x : SeenClient). x.log.log.0 ≡ j + 1) (λ e. e) j (t.logs.logs j);
     rooms = λ j. at (λ (x : SeenClient). x.log.room ≡ (geo.servers - 1) * geo.fragment) (λ e. e) j (t.logs.rooms j);

@@ -14,6 +14,8 @@ pub mod Forming
 pub mod Filled
 pub mod Stepped
 pub mod Serving
+pub mod Reading
 pub mod Replied
 pub mod Steps
 pub mod Giving
+pub mod Told

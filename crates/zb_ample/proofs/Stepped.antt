@@ -16,7 +16,7 @@ use Rattle.zb_finishing.specs.Clients.{IsIdleAt}
 use Rattle.zb_finishing.proofs.Places.{set_at, set_is}
 use Rattle.zb_ample.specs.Reaching.{IsPaid, LogGoesOn, begun_by}
 use Rattle.zb_ample.specs.Taking.{Belongs, SlotsAreTaken}
-use Rattle.zb_ample.specs.Turning.{InTurn, LogsAreFilled, ServersAreFilled}
+use Rattle.zb_ample.specs.Turning.{InTurn, LogsAreFilled, ReadsFirst, ServersAreFilled}
 use Rattle.zb_ample.proofs.Filled.{begun_grows}
 use Rattle.zb_ample.proofs.Moving.{Moves}
 use Rattle.zb_ample.proofs.Placing.{belongs_still}
@@ -53,14 +53,15 @@ module _ {geo : Geometry} {given : Given} {old : SeenNodes} (t : InTurn geo give
   }
 
   -- and all is in turn
-  pub turn_after : i ≡ t.who → ((j : ℕ) → j ≢ t.who → IsIdleAt new j) → is_fresh new.manager.tables d ≡ true → ServersAreFilled geo new → InTurn geo given new
-  turn_after who alone fresh servers = record {
+  pub turn_after : i ≡ t.who → ((j : ℕ) → j ≢ t.who → IsIdleAt new j) → is_fresh new.manager.tables d ≡ true → ReadsFirst d → ServersAreFilled geo new → InTurn geo given new
+  turn_after who alone fresh reads servers = record {
     sizes = sizes_are ∙ t.sizes;
     slots = slots_are ∙ t.slots;
     who = t.who;
     alone = alone;
     fresh = λ x at. subst (λ (y : SeenClient). is_fresh new.manager.tables y ≡ true)
         (same_Some d x (sym (set_is old new i c d is clients_are) ∙ ap (λ (k : ℕ). slice_get new.clients k) who ∙ at)) fresh;
+    reads = λ x at. subst ReadsFirst (same_Some d x (sym (set_is old new i c d is clients_are) ∙ ap (λ (k : ℕ). slice_get new.clients k) who ∙ at)) reads;
     logs = logs_after;
     servers = servers;
   }

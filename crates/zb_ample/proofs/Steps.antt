@@ -77,7 +77,7 @@ use Rattle.zb_finishing.proofs.Sized.{step_sized}
 use Rattle.zb_need.specs.Filling.{stripes_begun}
 use Rattle.zb_ample.specs.Reaching.{IsPaid, LogGoesOn, begun_by, reached, reached_at}
 use Rattle.zb_ample.specs.Taking.{Belongs}
-use Rattle.zb_ample.specs.Turning.{InTurn, ServersAreFilled}
+use Rattle.zb_ample.specs.Turning.{InTurn, ReadsFirst, ServersAreFilled}
 use Rattle.zb_ample.proofs.Filled.{all_begin_few, begun_at, client_begins_few, lacks_none}
 use Rattle.zb_ample.proofs.Forming.{formed_moves, room_fits}
 use Rattle.zb_ample.proofs.Freshly.{answers_fresh, batch_fresh, found_goes_fresh, got_fresh, leaves_fresh}
@@ -85,6 +85,7 @@ use Rattle.zb_ample.proofs.Moving.{Moves, leaves_moves, more_moves, rests_moves}
 use Rattle.zb_ample.proofs.Needing.{wants}
 use Rattle.zb_ample.proofs.Placed.{own_counts}
 use Rattle.zb_ample.proofs.Placing.{IsOnItsServer, plan_goes, stood_or_new}
+use Rattle.zb_ample.proofs.Reading.{fits_first, leaves_first, quiet_first, right_first, taken_first}
 use Rattle.zb_ample.proofs.Replied.{AreReplied, commit_replied, quiet_replied, right_replied, taken_fresh, taken_replied}
 use Rattle.zb_ample.proofs.Resting.{FormsWith, Rests, answers_rest, goes_on, got_rests, is_resting, taken_rests}
 use Rattle.zb_ample.proofs.Serving.{done_taken, read_undone, undone_taken}
@@ -139,8 +140,12 @@ module _ {given : Given} {lines : List Outcome} {old : SeenNodes} (s : AreSound 
   abbrev Right : Type 0
   Right = InTurn geo given new × AreReplied h.heard.told
 
-  turn : new.manager.tables.members.generation ≡ G → Moves geo given G C d → is_fresh new.manager.tables d ≡ true → ServersAreFilled geo new → InTurn geo given new
-  turn generation m now servers = turn_after t new i c d h.is h.clients sized.sizes sized.slots generation m who alone now servers
+  -- the read at work, if there is one, is of a queued call
+  reads : ReadsFirst C
+  reads = fits_first C h.known.aim
+
+  turn : new.manager.tables.members.generation ≡ G → Moves geo given G C d → is_fresh new.manager.tables d ≡ true → ReadsFirst d → ServersAreFilled geo new → InTurn geo given new
+  turn generation m now first servers = turn_after t new i c d h.is h.clients sized.sizes sized.slots generation m who alone now first servers
 
   module _ (rests : is_resting (step_of C.task) ≡ true) where
     moves : Rests geo C d → Moves geo given G C d
@@ -164,6 +169,7 @@ module _ {given : Given} {lines : List Outcome} {old : SeenNodes} (s : AreSound 
       let m = moves rests (subst (λ (x : Heard). Rests geo C x.client) (sym takes.heard_is) (taken_rests geo C none C.queue refl)) in (
         turn (ap (λ (x : Tables). x.members.generation) tables) m
             (subst (λ (x : Heard). is_fresh new.manager.tables x.client ≡ true) (sym takes.heard_is) (taken_fresh C at new.manager.tables C.queue))
+            (subst (λ (x : Heard). ReadsFirst x.client) (sym takes.heard_is) (taken_first C none C.queue refl))
             (servers_same t new i c d h.is h.clients sized.sizes sized.slots (ap (λ (x : Tables). x.members.generation) tables) m takes.same.servers),
         subst (λ (x : Heard). AreReplied x.told) (sym takes.heard_is) (taken_replied C at C.queue),
       )
@@ -186,6 +192,7 @@ module _ {given : Given} {lines : List Outcome} {old : SeenNodes} (s : AreSound 
           let m = by same.tables (goes_on geo b (looked_up C found) h.heard looks.1).either in (
             turn generation m
                 (subst (λ (x : Tables). is_fresh x d ≡ true) (sym same.tables) (found_goes_fresh old.manager.tables C (looked_up C found) task.tries hold asks wants refl b refl refl h.heard looks.1))
+                (right_first (World s i c h.is).tree C h.heard (lookup_right s i c h.is h.known task work new h.heard h.clients at (Files hold asks) wants looks) reads)
                 (servers_same t new i c d h.is h.clients sized.sizes sized.slots generation m looks.0.servers),
             right_replied (World s i c h.is).tree C h.heard (lookup_right s i c h.is h.known task work new h.heard h.clients at (Files hold asks) wants looks),
           ) where
@@ -201,6 +208,7 @@ module _ {given : Given} {lines : List Outcome} {old : SeenNodes} (s : AreSound 
           let m = moves at_rest (subst (λ (x : Heard). Rests geo C x.client) (sym looks.heard_is) (answers_rest geo C C.queue (said.Reply looks.reply) refl)) in (
             turn generation m
                 (subst (λ (x : Heard). is_fresh new.manager.tables x.client ≡ true) (sym looks.heard_is) (answers_fresh new.manager.tables C C.queue (said.Reply looks.reply)))
+                (right_first (World s i c h.is).tree C h.heard (lookup_right s i c h.is h.known task work new h.heard h.clients at (Names call) wants looks) reads)
                 (servers_same t new i c d h.is h.clients sized.sizes sized.slots generation m looks.same.servers),
             right_replied (World s i c h.is).tree C h.heard (lookup_right s i c h.is h.known task work new h.heard h.clients at (Names call) wants looks),
           )
@@ -237,6 +245,7 @@ module _ {given : Given} {lines : List Outcome} {old : SeenNodes} (s : AreSound 
           let m = fetch_moves (got_rests geo C basis place ptr (read_fed plan f.response).0 f.serving came h.heard f.hears) in (
             turn generation m
                 (subst (λ (x : Tables). is_fresh x d ≡ true) (sym tables) (got_fresh old.manager.tables C basis now place ptr (read_fed plan f.response).0 f.serving came h.heard f.hears))
+                (right_first (tree_for given lines (s.reads i)) C h.heard (fetch_right s i c h.is h.known task work new h.heard h.clients basis place ptr plan at f) reads)
                 (record {
                   belong = λ server id some. belongs_after t new i c d h.is h.clients sized.sizes sized.slots generation m server id
                       (t.servers.belong server id (ap is_some (sym (λ k. maps_are k server id)) ∙ some));
@@ -354,6 +363,7 @@ module _ {given : Given} {lines : List Outcome} {old : SeenNodes} (s : AreSound 
             turn generation m
                 (subst (λ (x : Tables). is_fresh x d ≡ true) (sym same.tables)
                 (subst (λ (x : Heard). is_fresh old.manager.tables x.client ≡ true) (sym hears) (batch_fresh old.manager.tables C basis formed now (fed_by formed.plan told.Done) came)))
+                (quiet_reads (store_tells s i c h.is h.known task work new h.heard h.clients basis formed at f))
                 (record {
                   belong = λ server id some. belongs_after t new i c d h.is h.clients sized.sizes sized.slots generation m server id
                       (stood_or_new (maps_of old.servers) f.asked server id (Belongs geo.servers (begun_by old.clients) server id)
@@ -369,6 +379,10 @@ module _ {given : Given} {lines : List Outcome} {old : SeenNodes} (s : AreSound 
             quiet (inl silent) = quiet_replied C h.heard silent.1
             quiet (inr up) = absurd (true≢false (sym up.0 ∙ ap is_refused done))
 
+            quiet_reads : ((is_refused f.response ≡ false) × TellsNothing C h.heard) ⊎ ((is_refused f.response ≡ true) × GivesUp C (NoSpace f.asked.0) h.heard) → ReadsFirst d
+            quiet_reads (inl silent) = quiet_first C h.heard silent.1 reads
+            quiet_reads (inr up) = absurd (true≢false (sym up.0 ∙ ap is_refused done))
+
     -- ---- a commit
     module _ (basis : Basis) (sealed : Sealed) (at : task.step ≡ step.Commit basis sealed) where
       committing : step_of C.task ≡ step.Commit basis sealed
@@ -383,6 +397,7 @@ module _ {given : Given} {lines : List Outcome} {old : SeenNodes} (s : AreSound 
           let m = subst (λ (x : Heard). Moves geo given G C x.client) (sym done.heard_is) (leaves_moves geo given G C goes paid basis sealed committing (length done.replies) count) in (
             turn generation m
                 (subst (λ (x : Heard). is_fresh new.manager.tables x.client ≡ true) (sym done.heard_is) (leaves_fresh new.manager.tables C (length done.replies)))
+                (subst (λ (x : Heard). ReadsFirst x.client) (sym done.heard_is) (leaves_first C (length done.replies) reads))
                 (servers_same t new i c d h.is h.clients sized.sizes sized.slots generation m servers),
             subst (λ (x : Heard). AreReplied x.told) (sym done.heard_is) (commit_replied C.client C.kept done.replies),
           )

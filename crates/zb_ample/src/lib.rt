@@ -4,4 +4,4 @@
 
 mod turns;
 
-pub use turns::{clients_come_in_turn, clients_in_turn_have_space};
+pub use turns::{calls_in_turn_find_all_idle, clients_come_in_turn, clients_in_turn_have_space};

@@ -1,4 +1,4 @@
-ghost use Rattle.std.specs.Prelude.{◌≡◌, ◌≤◌, ◌-◌, ◌+◌, ℕ, List, length, true};
+ghost use Rattle.std.specs.Prelude.{◌≡◌, ◌≤◌, ◌-◌, ◌+◌, ◌++◌, ℕ, List, length, true};
 ghost use Rattle.std.specs.List.{AllByRecursion};
 ghost use Rattle.zb_types.specs.declared.calls.Call.{Call};
 ghost use Rattle.zb_types.specs.declared.geometry.Geometry.{Geometry as System};
@@ -6,7 +6,8 @@ ghost use Rattle.zb_types.specs.declared.lines.Line.TheVariants.{Call as CallLin
 ghost use Rattle.zb_types.specs.declared.lines.Outcome.{Outcome};
 ghost use Rattle.zb_headline.specs.Complete.{is_replied};
 ghost use Rattle.zb_headline.specs.Need.{space_needed};
-ghost use Rattle.zb_given.specs.Given.{Given, none_given, script_of, with_finish, with_item};
+ghost use Rattle.zb_given.specs.Given.{FitGiven, Given, none_given, script_of, with_finish, with_item};
+ghost use Rattle.zb_given.specs.Ends.{all_told};
 ghost use Rattle.zb_manager.specs.Managers.{sizes_of};
 ghost use Rattle.zb_work.specs.declared.work.Aim.TheVariants.{Finish};
 ghost use Rattle.zb_work.specs.Steps.{new_task};
@@ -19,7 +20,7 @@ ghost use Rattle.zb_system.specs.Nodes.{IsClient, SeenNodes, with_client};
 ghost use Rattle.zb_system.specs.Sound.{AreSound};
 ghost use Rattle.zb_system.specs.Steps.{HasStepped, IsReadied};
 ghost use Rattle.zb_finishing.specs.Clients.{AllIdle};
-ghost use Rattle.zb_ample.specs.Turning.{InTurn};
+ghost use Rattle.zb_ample.specs.Turning.{AreInTurn, InTurn, IsUnfinished};
 
 /// Clients are in turn at first, and where one of them is given a call, or begins to commit all that it keeps, while all are
 /// idle; also where a finish is given, and where one takes memory for its next step.
@@ -41,4 +42,18 @@ pub fn clients_in_turn_have_space()
         → AreSound given lines old → MayRise old.manager.tables → space_needed geo (script_of given) ≤ geo.slots - 4
         → InTurn geo given old → HasStepped old new i told
         → InTurn geo given new × AllByRecursion (λ line. is_replied line ≡ true) (lines_in told) }
+{}
+
+/// What in turn means by what was given. Where each call has its line, and no finish began, all clients in turn are idle. Where
+/// one more call is given in turn, so were those before; each of them has its line, and no finish began. Also before a finish
+/// was given, and by the lines that stood earlier, all was in turn.
+pub fn calls_in_turn_find_all_idle()
+    ensures idle { (geo : System) (given : Given) (lines : List Outcome) (n : SeenNodes)
+        → AreSound given lines n → InTurn geo given n → all_told lines (script_of given) ≡ true → IsUnfinished given lines → AllIdle n }
+    ensures call { (given : Given) (lines : List Outcome) (n : SeenNodes) (i : ℕ) (c : SeenClient) (call : Call)
+        → AreSound given lines n → IsClient n i c → AreInTurn (with_item given (CallLine true (i + 1) call) (length lines)) lines
+        → AreInTurn given lines × ((all_told lines (script_of given) ≡ true) × IsUnfinished given lines) }
+    ensures finish { (given : Given) (lines : List Outcome) (place : ℕ) → AreInTurn (with_finish given place) lines → AreInTurn given lines }
+    ensures lines { (given : Given) (lines more : List Outcome)
+        → FitGiven given lines → AllByRecursion (λ at. at ≤ length lines) given.finishes → AreInTurn given (lines ++ more) → AreInTurn given lines }
 {}

@@ -6,8 +6,6 @@ mod fetching;
 mod laws;
 mod servers;
 mod storing;
-#[cfg(test)]
-mod tests;
 
 pub use laws::contents_are_held;
 pub use servers::StripeServers;

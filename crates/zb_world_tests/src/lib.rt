@@ -8,6 +8,12 @@ mod calls;
 #[cfg(test)]
 mod clients;
 #[cfg(test)]
+mod history;
+#[cfg(test)]
+mod orders;
+#[cfg(test)]
 mod report;
+#[cfg(test)]
+mod rows;
 #[cfg(test)]
 mod scripts;

@@ -232,7 +232,7 @@ fn go(client: &mut Client, alloc: Global, number: u64, state: u64) -> Mem<Option
     Ok(number)
 }
 
-/// So many steps. How many calls were made, none where a step comes out otherwise than it should.
+/// So many steps. The number of the next call, or none where a step comes out otherwise than it should.
 fn run(client: &mut Client, alloc: Global, steps: u32) -> Mem<Option<u64>> {
     let mut state = 88_172_645_463_325_252u64;
     let mut number = 1u64;
@@ -246,11 +246,16 @@ fn run(client: &mut Client, alloc: Global, steps: u32) -> Mem<Option<u64>> {
     Ok(Some(number))
 }
 
+/// The same, of a new client.
+fn next_call(alloc: Global, steps: u32) -> Mem<Option<u64>> {
+    let mut client = made(alloc)?;
+    run(&mut client, alloc, steps)
+}
+
 #[test]
 fn each_call_ends_once(rt: HostRuntime) -> Result<(), Fail> {
-    let mut client = made(rt.alloc())?;
-    let calls = run(&mut client, rt.alloc(), 10_000)?;
-    assert!(rt; calls.is_some(), "a step comes out otherwise");
-    assert!(rt; calls > Some(500), "many calls are made");
+    let number = next_call(rt.alloc(), 10_000)?;
+    assert!(rt; number.is_some(), "a step comes out otherwise");
+    assert!(rt; number > Some(500), "many calls are made");
     Ok(())
 }

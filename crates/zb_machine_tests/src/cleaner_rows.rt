@@ -1,4 +1,5 @@
-use crate::bench::{First, Give, made, step};
+use crate::cleaner_bench::{First, Give, made, step};
+use crate::servers::Says;
 use std::alloc::Global;
 use std::test::Fail;
 use zb_cleaner::{Cleaner, Told};
@@ -19,83 +20,93 @@ enum End {
     Other,
 }
 
+const DONE: Give = Give::Server(Says::Done);
+
+const BYTES: Give = Give::Server(Says::Bytes);
+
+const NAMES: Give = Give::Server(Says::Names);
+
+const NO_NAMES: Give = Give::Server(Says::NoNames);
+
+const DOWN: Give = Give::Server(Says::Down);
+
+const OLD: Give = Give::Server(Says::Old);
+
+const NO_SLOT: Give = Give::Server(Says::NoSlot);
+
 /// No stripe may be cleaned: strays are swept at each server, and the pass ends behind them.
 const NOTHING: [Row; 6] = [
     (Give::Nothing, Kind::Sweep, None),
-    (Give::Names, Kind::Delete, None),
-    (Give::Done, Kind::Sweep, None),
-    (Give::NoNames, Kind::Sweep, None),
-    (Give::Names, Kind::Delete, None),
-    (Give::Done, Kind::Idle, Some(End::Nothing)),
+    (NAMES, Kind::Delete, None),
+    (DONE, Kind::Sweep, None),
+    (NO_NAMES, Kind::Sweep, None),
+    (NAMES, Kind::Delete, None),
+    (DONE, Kind::Idle, Some(End::Nothing)),
 ];
 
 /// A server that is down at a delete, or at a sweep, is passed over.
 const PASSED_OVER: [Row; 5] = [
     (Give::Nothing, Kind::Sweep, None),
-    (Give::Names, Kind::Delete, None),
-    (Give::Down, Kind::Sweep, None),
-    (Give::Down, Kind::Sweep, None),
-    (Give::Done, Kind::Idle, Some(End::Nothing)),
+    (NAMES, Kind::Delete, None),
+    (DOWN, Kind::Sweep, None),
+    (DOWN, Kind::Sweep, None),
+    (DONE, Kind::Idle, Some(End::Nothing)),
 ];
 
 /// A stripe that no pointer names is retired at once.
 const EMPTY: [Row; 5] = [
     (Give::Picked(0), Kind::Retire, None),
     (Give::Retired, Kind::Sweep, None),
-    (Give::NoNames, Kind::Sweep, None),
-    (Give::NoNames, Kind::Sweep, None),
-    (
-        Give::NoNames,
-        Kind::Idle,
-        Some(End::Done(0, Ended::Retired)),
-    ),
+    (NO_NAMES, Kind::Sweep, None),
+    (NO_NAMES, Kind::Sweep, None),
+    (NO_NAMES, Kind::Idle, Some(End::Done(0, Ended::Retired))),
 ];
 
 /// Two blocks are copied, stored as a share and a parity, and committed.
 const COPIES: [Row; 10] = [
     (Give::Picked(2), Kind::Fetch, None),
-    (Give::Bytes, Kind::Fetch, None),
-    (Give::Bytes, Kind::Store, None),
-    (Give::Done, Kind::Store, None),
-    (Give::Done, Kind::Commit, None),
+    (BYTES, Kind::Fetch, None),
+    (BYTES, Kind::Store, None),
+    (DONE, Kind::Store, None),
+    (DONE, Kind::Commit, None),
     (Give::Committed, Kind::Retire, None),
     (Give::Needed, Kind::Sweep, None),
-    (Give::NoNames, Kind::Sweep, None),
-    (Give::NoNames, Kind::Sweep, None),
-    (Give::NoNames, Kind::Idle, Some(End::Done(1, Ended::Needed))),
+    (NO_NAMES, Kind::Sweep, None),
+    (NO_NAMES, Kind::Sweep, None),
+    (NO_NAMES, Kind::Idle, Some(End::Done(1, Ended::Needed))),
 ];
 
 /// A fetch that meets a fence looks the members up, and goes on with the same block; one through the parity goes on.
 const FETCHES: [Row; 5] = [
     (Give::Picked(1), Kind::Fetch, None),
-    (Give::Old, Kind::Lookup, None),
+    (OLD, Kind::Lookup, None),
     (Give::Seen, Kind::Fetch, None),
-    (Give::Down, Kind::Fetch, None),
-    (Give::Bytes, Kind::Fetch, None),
+    (DOWN, Kind::Fetch, None),
+    (BYTES, Kind::Fetch, None),
 ];
 
 /// A store ends as its server says, and a commit behind the members is placed anew.
 const STORES: [Row; 13] = [
     (Give::Picked(1), Kind::Fetch, None),
-    (Give::Bytes, Kind::Store, None),
-    (Give::Down, Kind::Mark, None),
+    (BYTES, Kind::Store, None),
+    (DOWN, Kind::Mark, None),
     (Give::Marked, Kind::Lookup, None),
     (Give::Seen, Kind::Store, None),
-    (Give::Old, Kind::Lookup, None),
+    (OLD, Kind::Lookup, None),
     (Give::Seen, Kind::Store, None),
-    (Give::Done, Kind::Store, None),
-    (Give::Done, Kind::Commit, None),
+    (DONE, Kind::Store, None),
+    (DONE, Kind::Commit, None),
     (Give::Regen, Kind::Lookup, None),
     (Give::Seen, Kind::Store, None),
-    (Give::Done, Kind::Store, None),
-    (Give::NoSlot, Kind::Idle, Some(End::Space(1))),
+    (DONE, Kind::Store, None),
+    (NO_SLOT, Kind::Idle, Some(End::Space(1))),
 ];
 
 /// Another server doesn't serve either.
 const NOT_MARKED: [Row; 4] = [
     (Give::Picked(1), Kind::Fetch, None),
-    (Give::Bytes, Kind::Store, None),
-    (Give::Down, Kind::Mark, None),
+    (BYTES, Kind::Store, None),
+    (DOWN, Kind::Mark, None),
     (Give::NotMarked, Kind::Idle, Some(End::Unreachable(1, 3))),
 ];
 
@@ -110,13 +121,9 @@ const MANAGER_DOWN: [Row; 3] = [
 const MENDING: [Row; 5] = [
     (Give::Picked(0), Kind::Retire, None),
     (Give::Mending, Kind::Sweep, None),
-    (Give::NoNames, Kind::Sweep, None),
-    (Give::NoNames, Kind::Sweep, None),
-    (
-        Give::NoNames,
-        Kind::Idle,
-        Some(End::Done(0, Ended::Mending)),
-    ),
+    (NO_NAMES, Kind::Sweep, None),
+    (NO_NAMES, Kind::Sweep, None),
+    (NO_NAMES, Kind::Idle, Some(End::Done(0, Ended::Mending))),
 ];
 
 /// How many jobs there are, which servers serve, and the steps.
@@ -168,35 +175,44 @@ fn line(told: &Told) -> Option<End> {
     }
 }
 
-/// The place of the first step that comes out otherwise, else how many there are.
-fn run(cleaner: &mut Cleaner<First>, alloc: Global, serving: u32, rows: &[Row]) -> Mem<usize> {
-    let mut i = 0usize;
-    for (give, kind, wanted) in rows {
-        let Some(told) = step(cleaner, alloc, *give, serving)? else {
-            return Ok(i);
-        };
-        if cleaner.kind() != *kind || line(&told) != *wanted {
-            return Ok(i);
-        }
-        i = i.wrapping_add(1);
-    }
-    Ok(i)
+/// Whether this line was told, if any.
+fn is_told(told: Option<Told>, wanted: Option<End>) -> bool {
+    let Some(told) = told else {
+        return false;
+    };
+    line(&told) == wanted
 }
 
-/// A cleaner with so many jobs.
-fn with_jobs(alloc: Global, jobs: usize) -> Mem<Cleaner<First>> {
-    let mut cleaner = made(alloc)?;
+/// Whether a step comes out as it should.
+fn comes_out(cleaner: &mut Cleaner<First>, alloc: Global, serving: u32, row: Row) -> Mem<bool> {
+    let (give, kind, wanted) = row;
+    let told = step(cleaner, alloc, give, serving)?;
+    Ok(is_told(told, wanted) && cleaner.kind() == kind)
+}
+
+/// The place of the first step that comes out otherwise, else how many there are.
+fn run(cleaner: &mut Cleaner<First>, alloc: Global, serving: u32, rows: &[Row]) -> Mem<usize> {
+    for (i, row) in rows.iter().enumerate() {
+        if !comes_out(cleaner, alloc, serving, *row)? {
+            return Ok(i);
+        }
+    }
+    Ok(rows.len())
+}
+
+/// How many of these steps come out as they should, with so many jobs.
+fn go(cleaner: &mut Cleaner<First>, alloc: Global, course: Course) -> Mem<usize> {
+    let (jobs, serving, rows) = course;
     for _ in 0..jobs {
         cleaner.push(alloc)?;
     }
-    Ok(cleaner)
+    run(cleaner, alloc, serving, rows)
 }
 
 /// How many steps of a course come out as they should.
 fn follow(alloc: Global, course: Course) -> Mem<usize> {
-    let (jobs, serving, rows) = course;
-    let mut cleaner = with_jobs(alloc, jobs)?;
-    run(&mut cleaner, alloc, serving, rows)
+    let mut cleaner = made(alloc)?;
+    go(&mut cleaner, alloc, course)
 }
 
 #[test]

@@ -1,29 +1,25 @@
 ghost use Rattle.std.specs.Prelude.{◌<◌, ◌≤◌, length};
 
+use crate::servers::{Says, response};
 use std::alloc::Global;
 use zb_cleaner::{Answer, Cleaner, Told, Wish};
 use zb_delta::Body;
 use zb_pass::BodyList;
 use zb_types::{
-    ByteList, CommitFault, Fid, FragId, FragList, Geometry, HeldList, HeldUse, LenList, LogId,
-    LogUse, LogUseList, MarkFault, Mem, Members, NoMemory, Ptr, Request, Response, RetireFault,
-    ServerId, State, Status, StoreFault,
+    CommitFault, Fid, Geometry, HeldList, HeldUse, LogId, LogUse, LogUseList, MarkFault, Mem,
+    Members, NoMemory, Ptr, RetireFault, ServerId, State, Status,
 };
 use zb_usage::{Chooses, StripeUse};
 
 /// What the cleaner is answered, in the form that its wish has.
-#[derive(Clone, Copy, PartialEq, Eq)]
+#[derive(Clone, Copy)]
 pub enum Give {
     /// A stripe that may be cleaned, with so many blocks of six bytes.
     Picked(u32),
     /// No stripe that may be cleaned.
     Nothing,
+    Server(Says),
     Seen,
-    Done,
-    Bytes,
-    Down,
-    Old,
-    NoSlot,
     Marked,
     NotMarked,
     Committed,
@@ -31,9 +27,6 @@ pub enum Give {
     Retired,
     Needed,
     Mending,
-    /// The names of a fragment of stripe 0 of log 1, and of one of its stripe 3, the last.
-    Names,
-    NoNames,
     ManagerDown,
     Doubt,
 }
@@ -143,48 +136,6 @@ fn nothing(alloc: Global) -> Mem<Answer> {
     })
 }
 
-fn many(alloc: Global, count: u32) -> Mem<ByteList> {
-    Ok(ByteList::of(vec![in alloc; 7u8; count as usize]?))
-}
-
-/// The bytes that are asked for; of a parity, that of shares that have all their bytes.
-fn bytes(alloc: Global, wish: &Wish) -> Mem<Response> {
-    let Wish::Server(_, _, Request::Retrieve { id, len, .. }) = wish else {
-        return Ok(Response::Done);
-    };
-    if id.index == 2 {
-        return Ok(Response::Parity {
-            lengths: LenList::from_slice(alloc, &[256, 256])?,
-            bytes: many(alloc, *len)?,
-        });
-    }
-    Ok(Response::Bytes(many(alloc, *len)?))
-}
-
-fn frag(stripe: u64) -> FragId {
-    FragId {
-        log: LogId(1),
-        stripe,
-        index: 0,
-    }
-}
-
-fn names(alloc: Global) -> Mem<Response> {
-    Ok(Response::Ids(FragList::from_slice(alloc, &[frag(0), frag(3)])?))
-}
-
-fn response(alloc: Global, wish: &Wish, give: Give) -> Mem<Response> {
-    Ok(match give {
-        Give::Bytes => bytes(alloc, wish)?,
-        Give::Names => names(alloc)?,
-        Give::NoNames => Response::Ids(FragList::new(alloc)?),
-        Give::Down => Response::Down,
-        Give::Old => Response::Refused(StoreFault::OldGeneration { now: 2 }),
-        Give::NoSlot => Response::Refused(StoreFault::NoSlot { free: 0 }),
-        _ => Response::Done,
-    })
-}
-
 fn kept(alloc: Global, fault: RetireFault) -> Mem<Answer> {
     Ok(Answer::NotRetired {
         fault,
@@ -192,10 +143,9 @@ fn kept(alloc: Global, fault: RetireFault) -> Mem<Answer> {
     })
 }
 
-fn turn(alloc: Global, give: Give) -> Mem<Option<Answer>> {
-    Ok(Some(match give {
-        Give::Picked(count) => picked(alloc, count)?,
-        Give::Nothing => nothing(alloc)?,
+/// An answer that needs no memory.
+fn plain(give: Give) -> Answer {
+    match give {
         Give::Seen => Answer::Seen(MEMBERS),
         Give::Marked => Answer::Marked,
         Give::NotMarked => Answer::NotMarked(MarkFault::Refused { other: ServerId(1) }),
@@ -204,28 +154,29 @@ fn turn(alloc: Global, give: Give) -> Mem<Option<Answer>> {
             rejected: 0,
         },
         Give::Regen => Answer::NotCommitted(CommitFault::Regen { seen: 1, now: 2 }),
-        Give::Retired => Answer::Retired(status(alloc, &[])?),
-        Give::Needed => kept(alloc, RetireFault::Needed { entry: 1 })?,
-        Give::Mending => kept(
-            alloc,
-            RetireFault::Mending {
-                server: ServerId(1),
-            },
-        )?,
-        Give::ManagerDown => Answer::Down,
         Give::Doubt => Answer::Doubt,
-        _ => return Ok(None),
-    }))
+        _ => Answer::Down,
+    }
 }
 
 /// The answer to a wish, where these servers serve after it: bit I - 1 is that of server I.
 fn answer(alloc: Global, wish: &Wish, give: Give, serving: u32) -> Mem<Answer> {
-    match turn(alloc, give)? {
-        Some(answer) => Ok(answer),
-        None => Ok(Answer::Server {
-            response: response(alloc, wish, give)?,
+    match (give, wish) {
+        (Give::Server(says), Wish::Server(_, _, request)) => Ok(Answer::Server {
+            response: response(alloc, request, says)?,
             serving,
         }),
+        (Give::Picked(count), _) => picked(alloc, count),
+        (Give::Nothing, _) => nothing(alloc),
+        (Give::Retired, _) => Ok(Answer::Retired(status(alloc, &[])?)),
+        (Give::Needed, _) => kept(alloc, RetireFault::Needed { entry: 1 }),
+        (Give::Mending, _) => kept(
+            alloc,
+            RetireFault::Mending {
+                server: ServerId(1),
+            },
+        ),
+        _ => Ok(plain(give)),
     }
 }
 

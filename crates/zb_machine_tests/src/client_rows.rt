@@ -1,4 +1,5 @@
-use crate::bench::{Do, Give, flush, made, push, settle, step, wish};
+use crate::client_bench::{Do, Give, flush, made, push, settle, step, wish};
+use crate::servers::Says;
 use std::alloc::Global;
 use std::test::Fail;
 use zb_client::{Client, Lookup, Told, Turn, Wish};
@@ -28,13 +29,25 @@ enum What {
 /// One step: what it is answered, the kind of the step behind it, and up to two lines, each with the number of its call.
 type Row = (Give, Kind, Option<(u64, What)>, Option<(u64, What)>);
 
+const DONE: Give = Give::Server(Says::Done);
+
+const BYTES: Give = Give::Server(Says::Bytes);
+
+const DOWN: Give = Give::Server(Says::Down);
+
+const GONE: Give = Give::Server(Says::Gone);
+
+const OLD: Give = Give::Server(Says::Old);
+
+const NO_SLOT: Give = Give::Server(Says::NoSlot);
+
 /// A write is buffered, and a sync commits both.
 const BUFFERED: [Row; 6] = [
     (Give::Inside, Kind::Call, Some((1, What::Buffered)), None),
     (Give::Inside, Kind::Lookup, None, None),
     (Give::Found, Kind::Store, None, None),
-    (Give::Done, Kind::Store, None, None),
-    (Give::Done, Kind::Commit, None, None),
+    (DONE, Kind::Store, None, None),
+    (DONE, Kind::Commit, None, None),
     (
         Give::Committed,
         Kind::Idle,
@@ -60,8 +73,8 @@ const NAMES_ALONE: [Row; 7] = [
     (Give::Inside, Kind::Call, Some((1, What::Buffered)), None),
     (Give::Inside, Kind::Lookup, None, None),
     (Give::Found, Kind::Store, None, None),
-    (Give::Done, Kind::Store, None, None),
-    (Give::Done, Kind::Commit, None, None),
+    (DONE, Kind::Store, None, None),
+    (DONE, Kind::Commit, None, None),
     (Give::Committed, Kind::Lookup, Some((1, What::Done)), None),
     (Give::Found, Kind::Store, None, None),
 ];
@@ -72,20 +85,20 @@ const IN_PART: [Row; 5] = [
     (Give::Inside, Kind::Call, Some((2, What::Buffered)), None),
     (Give::Inside, Kind::Lookup, None, None),
     (Give::Blocks, Kind::Fetch, None, None),
-    (Give::Bytes, Kind::Store, None, None),
+    (BYTES, Kind::Store, None, None),
 ];
 
 /// A store ends as its server says.
 const STORES: [Row; 8] = [
     (Give::Inside, Kind::Lookup, None, None),
     (Give::Found, Kind::Store, None, None),
-    (Give::Down, Kind::Mark, None, None),
+    (DOWN, Kind::Mark, None, None),
     (Give::Marked, Kind::Lookup, None, None),
     (Give::Found, Kind::Store, None, None),
-    (Give::Old, Kind::Lookup, None, None),
+    (OLD, Kind::Lookup, None, None),
     (Give::Found, Kind::Store, None, None),
     (
-        Give::NoSlot,
+        NO_SLOT,
         Kind::Idle,
         Some((1, What::Kept(Why::Space(1)))),
         None,
@@ -96,7 +109,7 @@ const STORES: [Row; 8] = [
 const NOT_MARKED: [Row; 4] = [
     (Give::Inside, Kind::Lookup, None, None),
     (Give::Found, Kind::Store, None, None),
-    (Give::Down, Kind::Mark, None, None),
+    (DOWN, Kind::Mark, None, None),
     (
         Give::NotMarked,
         Kind::Idle,
@@ -109,7 +122,7 @@ const NOT_MARKED: [Row; 4] = [
 const MARK_DOWN: [Row; 4] = [
     (Give::Inside, Kind::Lookup, None, None),
     (Give::Found, Kind::Store, None, None),
-    (Give::Down, Kind::Mark, None, None),
+    (DOWN, Kind::Mark, None, None),
     (
         Give::ManagerDown,
         Kind::Idle,
@@ -122,7 +135,7 @@ const MARK_DOWN: [Row; 4] = [
 const READS: [Row; 7] = [
     (Give::Inside, Kind::Lookup, None, None),
     (Give::Blocks, Kind::Fetch, None, None),
-    (Give::Bytes, Kind::Call, Some((1, What::Bytes(6))), None),
+    (BYTES, Kind::Call, Some((1, What::Bytes(6))), None),
     (Give::Inside, Kind::Lookup, None, None),
     (Give::Blocks, Kind::Call, Some((2, What::Bytes(6))), None),
     (Give::Inside, Kind::Lookup, None, None),
@@ -133,30 +146,30 @@ const READS: [Row; 7] = [
 const PARITY: [Row; 5] = [
     (Give::Inside, Kind::Lookup, None, None),
     (Give::Blocks, Kind::Fetch, None, None),
-    (Give::Down, Kind::Fetch, None, None),
-    (Give::Bytes, Kind::Fetch, None, None),
-    (Give::Bytes, Kind::Idle, Some((1, What::Bytes(6))), None),
+    (DOWN, Kind::Fetch, None, None),
+    (BYTES, Kind::Fetch, None, None),
+    (BYTES, Kind::Idle, Some((1, What::Bytes(6))), None),
 ];
 
 /// A read looks up anew where its block is gone, the server's fence is higher, or a server serves again.
 const READ_ANEW: [Row; 8] = [
     (Give::Inside, Kind::Lookup, None, None),
     (Give::Blocks, Kind::Fetch, None, None),
-    (Give::Gone, Kind::Lookup, None, None),
+    (GONE, Kind::Lookup, None, None),
     (Give::Blocks, Kind::Fetch, None, None),
-    (Give::Old, Kind::Lookup, None, None),
+    (OLD, Kind::Lookup, None, None),
     (Give::Blocks, Kind::Fetch, None, None),
-    (Give::Down, Kind::Fetch, None, None),
-    (Give::Down, Kind::Lookup, None, None),
+    (DOWN, Kind::Fetch, None, None),
+    (DOWN, Kind::Lookup, None, None),
 ];
 
 /// A read fails where two servers don't answer, and none serves.
 const UNREACHABLE: [Row; 4] = [
     (Give::Inside, Kind::Lookup, None, None),
     (Give::Blocks, Kind::Fetch, None, None),
-    (Give::Down, Kind::Fetch, None, None),
+    (DOWN, Kind::Fetch, None, None),
     (
-        Give::Down,
+        DOWN,
         Kind::Idle,
         Some((1, What::Failed(Why::Unreachable(1, 2)))),
         None,
@@ -181,8 +194,8 @@ const KEPT_FIRST: [Row; 7] = [
     (Give::Inside, Kind::Call, Some((1, What::Buffered)), None),
     (Give::Inside, Kind::Lookup, None, None),
     (Give::Found, Kind::Store, None, None),
-    (Give::Done, Kind::Store, None, None),
-    (Give::Done, Kind::Commit, None, None),
+    (DONE, Kind::Store, None, None),
+    (DONE, Kind::Commit, None, None),
     (Give::Committed, Kind::Lookup, Some((1, What::Done)), None),
     (Give::Found, Kind::Idle, Some((2, What::Bytes(0))), None),
 ];
@@ -204,8 +217,8 @@ const UNFINISHED: [Row; 4] = [
 const DOUBT: [Row; 8] = [
     (Give::Inside, Kind::Lookup, None, None),
     (Give::Found, Kind::Store, None, None),
-    (Give::Done, Kind::Store, None, None),
-    (Give::Done, Kind::Commit, None, None),
+    (DONE, Kind::Store, None, None),
+    (DONE, Kind::Commit, None, None),
     (
         Give::Doubt,
         Kind::Call,
@@ -226,20 +239,20 @@ const DOUBT: [Row; 8] = [
 const STALE: [Row; 17] = [
     (Give::Inside, Kind::Lookup, None, None),
     (Give::Found, Kind::Store, None, None),
-    (Give::Done, Kind::Store, None, None),
-    (Give::Done, Kind::Commit, None, None),
+    (DONE, Kind::Store, None, None),
+    (DONE, Kind::Commit, None, None),
     (Give::Stale, Kind::Lookup, None, None),
     (Give::Found, Kind::Store, None, None),
-    (Give::Done, Kind::Store, None, None),
-    (Give::Done, Kind::Commit, None, None),
+    (DONE, Kind::Store, None, None),
+    (DONE, Kind::Commit, None, None),
     (Give::Stale, Kind::Lookup, None, None),
     (Give::Found, Kind::Store, None, None),
-    (Give::Done, Kind::Store, None, None),
-    (Give::Done, Kind::Commit, None, None),
+    (DONE, Kind::Store, None, None),
+    (DONE, Kind::Commit, None, None),
     (Give::Regen, Kind::Lookup, None, None),
     (Give::Found, Kind::Store, None, None),
-    (Give::Done, Kind::Store, None, None),
-    (Give::Done, Kind::Commit, None, None),
+    (DONE, Kind::Store, None, None),
+    (DONE, Kind::Commit, None, None),
     (Give::Stale, Kind::Lookup, None, None),
 ];
 
@@ -308,14 +321,12 @@ fn line(told: &Told, i: usize) -> Option<(u64, What)> {
     }
 }
 
-fn is_told(told: &Told, first: Option<(u64, What)>, second: Option<(u64, What)>) -> bool {
-    if line(told, 0) != first {
+/// Whether these lines were told, and no others.
+fn is_told(told: Option<Told>, first: Option<(u64, What)>, second: Option<(u64, What)>) -> bool {
+    let Some(told) = told else {
         return false;
-    }
-    if line(told, 1) != second {
-        return false;
-    }
-    line(told, 2).is_none()
+    };
+    line(&told, 0) == first && line(&told, 1) == second && line(&told, 2).is_none()
 }
 
 /// What a client tells of one step. None where the answer doesn't fit.
@@ -333,37 +344,44 @@ fn told_of(client: &mut Client, alloc: Global, give: Give, serving: u32) -> Mem<
     }
 }
 
-/// The place of the first step that comes out otherwise, else how many there are.
-fn run(client: &mut Client, alloc: Global, serving: u32, rows: &[Row]) -> Mem<usize> {
-    let mut i = 0usize;
-    for (give, kind, first, second) in rows {
-        let Some(told) = told_of(client, alloc, *give, serving)? else {
-            return Ok(i);
-        };
-        if client.kind() != *kind || !is_told(&told, *first, *second) {
-            return Ok(i);
-        }
-        i = i.wrapping_add(1);
-    }
-    Ok(i)
+/// Whether a step comes out as it should.
+fn comes_out(client: &mut Client, alloc: Global, serving: u32, row: Row) -> Mem<bool> {
+    let (give, kind, first, second) = row;
+    let told = told_of(client, alloc, give, serving)?;
+    Ok(is_told(told, first, second) && client.kind() == kind)
 }
 
-/// A client with these calls, numbered from 1.
-fn with_calls(alloc: Global, calls: &[Do]) -> Mem<Client> {
-    let mut client = made(alloc)?;
+/// The place of the first step that comes out otherwise, else how many there are.
+fn run(client: &mut Client, alloc: Global, serving: u32, rows: &[Row]) -> Mem<usize> {
+    for (i, row) in rows.iter().enumerate() {
+        if !comes_out(client, alloc, serving, *row)? {
+            return Ok(i);
+        }
+    }
+    Ok(rows.len())
+}
+
+/// Queues these calls, numbered from 1.
+fn push_all(client: &mut Client, alloc: Global, calls: &[Do]) -> Mem<()> {
     let mut number = 1u64;
     for call in calls {
-        push(&mut client, alloc, number, *call)?;
+        push(client, alloc, number, *call)?;
         number = number.wrapping_add(1);
     }
-    Ok(client)
+    Ok(())
+}
+
+/// How many of these steps come out as they should behind these calls.
+fn go(client: &mut Client, alloc: Global, course: Course) -> Mem<usize> {
+    let (calls, serving, rows) = course;
+    push_all(client, alloc, calls)?;
+    run(client, alloc, serving, rows)
 }
 
 /// How many steps of a course come out as they should.
 fn follow(alloc: Global, course: Course) -> Mem<usize> {
-    let (calls, serving, rows) = course;
-    let mut client = with_calls(alloc, calls)?;
-    run(&mut client, alloc, serving, rows)
+    let mut client = made(alloc)?;
+    go(&mut client, alloc, course)
 }
 
 #[test]
@@ -384,11 +402,17 @@ fn holds(client: &mut Client, alloc: Global) -> Mem<bool> {
 }
 
 /// Whether the lookup holds behind so many of the steps of a stale batch.
-fn holds_behind(alloc: Global, steps: usize) -> Mem<bool> {
-    let mut client = with_calls(alloc, &[Do::Sync])?;
+fn holds_after(client: &mut Client, alloc: Global, steps: usize) -> Mem<bool> {
+    push(client, alloc, 1, Do::Sync)?;
     let (rows, _) = STALE.split_at(steps.min(STALE.len()));
-    run(&mut client, alloc, 7, rows)?;
-    holds(&mut client, alloc)
+    run(client, alloc, 7, rows)?;
+    holds(client, alloc)
+}
+
+/// The same, of a new client.
+fn holds_behind(alloc: Global, steps: usize) -> Mem<bool> {
+    let mut client = made(alloc)?;
+    holds_after(&mut client, alloc, steps)
 }
 
 #[test]

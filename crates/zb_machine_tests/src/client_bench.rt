@@ -1,13 +1,14 @@
+use crate::servers::{Says, other_than, response};
 use std::alloc::Global;
 use zb_basis::{Ask, FoundList};
 use zb_client::{Answer, Client, Lookup, ReplyList, Told, Turn, Wish};
 use zb_types::{
-    BlockList, ByteList, Call, CommitFault, Fid, Found, Geometry, Kind, LenList, LogId, MarkFault,
-    Mem, Members, NoMemory, Path, Ptr, Reply, Request, Response, ServerId, State, StoreFault,
+    BlockList, ByteList, Call, CommitFault, Fid, Found, Geometry, Kind, LogId, MarkFault, Mem,
+    Members, NoMemory, Path, Ptr, Reply, Response, State,
 };
 
 /// What a client is answered, in the form that its wish has.
-#[derive(Clone, Copy, PartialEq, Eq)]
+#[derive(Clone, Copy)]
 pub enum Give {
     Inside,
     /// Files without blocks.
@@ -15,12 +16,7 @@ pub enum Give {
     /// Files with one block of six bytes, at the first place that is asked.
     Blocks,
     Named,
-    Done,
-    Bytes,
-    Down,
-    Gone,
-    Old,
-    NoSlot,
+    Server(Says),
     Marked,
     NotMarked,
     Committed,
@@ -62,32 +58,35 @@ fn path(alloc: Global) -> Mem<Path> {
     }
 }
 
+fn write(alloc: Global, offset: u32) -> Mem<Call> {
+    Ok(Call::Write {
+        fid: Fid(1),
+        offset,
+        bytes: ByteList::from_slice(alloc, b"abcdef")?,
+    })
+}
+
 fn call_of(alloc: Global, what: Do) -> Mem<Call> {
-    Ok(match what {
-        Do::Create => Call::Create(path(alloc)?),
-        Do::Write(offset) => Call::Write {
-            fid: Fid(1),
-            offset,
-            bytes: ByteList::from_slice(alloc, b"abcdef")?,
-        },
-        Do::Truncate(length) => Call::Truncate {
+    match what {
+        Do::Create => Ok(Call::Create(path(alloc)?)),
+        Do::Write(offset) => write(alloc, offset),
+        Do::Truncate(length) => Ok(Call::Truncate {
             fid: Fid(1),
             length,
-        },
-        Do::Sync => Call::Sync,
-        Do::Read(offset, len) => Call::Read {
+        }),
+        Do::Sync => Ok(Call::Sync),
+        Do::Read(offset, len) => Ok(Call::Read {
             fid: Fid(1),
             offset,
             len,
-        },
-        Do::Stat => Call::Stat(path(alloc)?),
-    })
+        }),
+        Do::Stat => Ok(Call::Stat(path(alloc)?)),
+    }
 }
 
 /// Queues a call.
 pub fn push(client: &mut Client, alloc: Global, number: u64, what: Do) -> Mem<()> {
-    let call = call_of(alloc, what)?;
-    client.push(alloc, number, call)
+    client.push(alloc, number, call_of(alloc, what)?)
 }
 
 /// What the client wants.
@@ -125,6 +124,11 @@ pub fn settle(client: &mut Client, committed: bool) {
 /// How many blocks lie before byte 100 of a stripe.
 const LONG: u32 = 67_108_864;
 
+const MEMBERS: Members = Members {
+    state: State::Whole,
+    generation: 1,
+};
+
 fn block_at(ask: &Ask) -> (u32, Ptr) {
     let ptr = Ptr {
         log: LogId(1),
@@ -135,100 +139,91 @@ fn block_at(ask: &Ask) -> (u32, Ptr) {
     (ask.first, ptr)
 }
 
-fn found_for(alloc: Global, ask: &Ask, blocks: bool) -> Mem<Found> {
-    let mut list = BlockList::new(alloc)?;
-    if blocks && ask.count > 0 {
-        list.push(block_at(ask))?;
+fn empty_file(alloc: Global) -> Mem<Found> {
+    Ok(Found {
+        version: 1,
+        length: 0,
+        blocks: BlockList::new(alloc)?,
+        members: MEMBERS,
+    })
+}
+
+fn file_with_block(alloc: Global, ask: &Ask) -> Mem<Found> {
+    let mut blocks = BlockList::new(alloc)?;
+    if ask.count > 0 {
+        blocks.push(block_at(ask))?;
     }
     Ok(Found {
         version: 1,
-        length: if blocks { LONG } else { 0 },
-        blocks: list,
-        members: Members {
-            state: State::Whole,
-            generation: 1,
-        },
+        length: LONG,
+        blocks,
+        members: MEMBERS,
     })
 }
 
-fn found(alloc: Global, wish: &Wish, blocks: bool) -> Mem<FoundList> {
+fn file(alloc: Global, ask: &Ask, give: Give) -> Mem<Found> {
+    if matches!(give, Give::Blocks) {
+        return file_with_block(alloc, ask);
+    }
+    empty_file(alloc)
+}
+
+fn files(alloc: Global, asks: &[Ask], give: Give) -> Mem<Answer> {
     let mut list = FoundList::new(alloc)?;
-    if let Wish::Turn(Turn::Lookup(Lookup::Files { asks, .. })) = wish {
-        for ask in asks.slice() {
-            list.push(found_for(alloc, ask, blocks)?)?;
-        }
+    for ask in asks {
+        list.push(file(alloc, ask, give)?)?;
     }
-    Ok(list)
+    Ok(Answer::Found(list))
 }
 
-fn replies(alloc: Global, wish: &Wish) -> Mem<ReplyList> {
+fn committed(alloc: Global, count: usize) -> Mem<Answer> {
     let mut list = ReplyList::new(alloc)?;
-    if let Wish::Turn(Turn::Commit { batch, .. }) = wish {
-        for _ in batch.ops.slice() {
-            list.push(Reply::Done)?;
-        }
+    for _ in 0..count {
+        list.push(Reply::Done)?;
     }
-    Ok(list)
+    Ok(Answer::Committed(list))
 }
 
-fn many(alloc: Global, count: u32) -> Mem<ByteList> {
-    Ok(ByteList::of(vec![in alloc; 7u8; count as usize]?))
-}
-
-/// The bytes that are asked for; of a parity, that of shares that have all their bytes.
-fn bytes(alloc: Global, wish: &Wish) -> Mem<Response> {
-    let Wish::Server(_, _, Request::Retrieve { id, len, .. }) = wish else {
-        return Ok(Response::Done);
-    };
-    if id.index == 2 {
-        return Ok(Response::Parity {
-            lengths: LenList::from_slice(alloc, &[256, 256])?,
-            bytes: many(alloc, *len)?,
-        });
-    }
-    Ok(Response::Bytes(many(alloc, *len)?))
-}
-
-fn response(alloc: Global, wish: &Wish, give: Give) -> Mem<Response> {
-    Ok(match give {
-        Give::Bytes => bytes(alloc, wish)?,
-        Give::Down => Response::Down,
-        Give::Gone => Response::Refused(StoreFault::NoFragment),
-        Give::Old => Response::Refused(StoreFault::OldGeneration { now: 2 }),
-        Give::NoSlot => Response::Refused(StoreFault::NoSlot { free: 4 }),
-        _ => Response::Done,
-    })
-}
-
-fn turn(alloc: Global, wish: &Wish, give: Give) -> Mem<Option<Answer>> {
-    Ok(Some(match give {
+/// An answer that needs no memory.
+fn plain(give: Give) -> Answer {
+    match give {
         Give::Inside => Answer::Inside,
-        Give::Found => Answer::Found(found(alloc, wish, false)?),
-        Give::Blocks => Answer::Found(found(alloc, wish, true)?),
         Give::Named => Answer::Named(Reply::Dir),
         Give::Marked => Answer::Marked,
-        Give::NotMarked => Answer::NotMarked(MarkFault::Refused { other: ServerId(3) }),
-        Give::Committed => Answer::Committed(replies(alloc, wish)?),
         Give::Stale => Answer::NotCommitted(CommitFault::Stale {
             fid: Fid(1),
             seen: 1,
             now: 2,
         }),
         Give::Regen => Answer::NotCommitted(CommitFault::Regen { seen: 1, now: 2 }),
-        Give::ManagerDown => Answer::Down,
         Give::Doubt => Answer::Doubt,
-        _ => return Ok(None),
-    }))
+        _ => Answer::Down,
+    }
 }
 
 /// The answer to a wish, where these servers serve after it: bit I - 1 is that of server I.
 pub fn answer(alloc: Global, wish: &Wish, give: Give, serving: u32) -> Mem<Answer> {
-    match turn(alloc, wish, give)? {
-        Some(answer) => Ok(answer),
-        None => Ok(Answer::Server {
-            response: response(alloc, wish, give)?,
+    match (give, wish) {
+        (Give::Server(says), Wish::Server(_, _, request)) => Ok(Answer::Server {
+            response: response(alloc, request, says)?,
             serving,
         }),
+        (Give::Server(_), _) => Ok(Answer::Server {
+            response: Response::Done,
+            serving,
+        }),
+        (Give::Found | Give::Blocks, Wish::Turn(Turn::Lookup(Lookup::Files { asks, .. }))) => {
+            files(alloc, asks.slice(), give)
+        }
+        (Give::Committed, Wish::Turn(Turn::Commit { batch, .. })) => {
+            committed(alloc, batch.ops.len())
+        }
+        (Give::NotMarked, Wish::Turn(Turn::Mark { server, .. })) => Ok(Answer::NotMarked(
+            MarkFault::Refused {
+                other: other_than(*server),
+            },
+        )),
+        _ => Ok(plain(give)),
     }
 }
 

@@ -1,5 +1,6 @@
 -- Lemmas on the running of a system.
 pub mod OfSystems
+pub mod InTurns
 pub mod Reported
 pub mod Shown
 pub mod Blocked

@@ -24,10 +24,11 @@ use Rattle.zb_system.specs.Steps.{HasStepped}
 use Rattle.zb_system.proofs.FirstReads.{not_looked}
 use Rattle.zb_system.proofs.Inside.{ready_stays}
 use Rattle.zb_system.proofs.ReadsLeft.{lookup_unread}
-use Rattle.zb_nodes.specs.Seen.{kind_at}
 use Rattle.zb_nodes.specs.declared.answers.Halt.{Halt}
-use Rattle.zb_finishing.specs.Clients.{SizesStay}
+use Rattle.zb_finishing.specs.Clients.{AllIdle, SizesStay}
 use Rattle.zb_finishing.specs.Telling.{MayTell}
+use Rattle.zb_ample.proofs.Told.{lines_in_turn}
+use Rattle.zb_finishing.proofs.Alone.{idle_seen}
 use Rattle.zb_finishing.proofs.Said.{stepped_may}
 use Rattle.zb_finishing.proofs.Sized.{ready_sized, set_sized, step_sized}
 use Rattle.zb_course.specs.Seen.{SeenCourse, lines_behind}
@@ -39,8 +40,9 @@ use Rattle.zb_course.specs.declared.step.Step.TheVariants as step
 use Rattle.zb_course.proofs.Giving.{begins, commits_all, finish_begins, same_reads, takes}
 use Rattle.zb_course.proofs.Going.{is_looking}
 use Rattle.zb_course.proofs.Stepping.{answers_so, behind_so, moves_so, numbered, rest_told, set_here, waited_so}
-use Rattle.zb_running.specs.Reports.{HasReport, IsOfSystem, IsReported, MayWait}
+use Rattle.zb_running.specs.Reports.{ComesInTurn, HasReport, IsOfSystem, IsReported, MayWait}
 use Rattle.zb_running.specs.Telling.{GivesMore, HasHalted, HasTold, TellsMore}
+use Rattle.zb_running.proofs.InTurns.{call_in_order, finish_in_order, first_in_turn, flush_in_order, ready_in_order, rest_in_order, still_in_order, told_in_order, waits_in_order}
 use Rattle.zb_running.proofs.OfSystems.{clients_are, servers_are, with_call, with_end, with_none, with_told, within_both, within_high, within_low}
 
 -- ---- it begins
@@ -48,6 +50,7 @@ use Rattle.zb_running.proofs.OfSystems.{clients_are, servers_are, with_call, wit
 pub first_report : (geo : Geometry) (c : SeenCourse) → IsFirstCourse geo c → HasReport geo none_given [] c
 first_report geo c f = record {
   system = record { sizes = f.sizes; slots = f.slots; calls = tt; count = sym f.calls; valid = tt; space = tt };
+  turns = first_in_turn geo c f;
   settled = begins geo c f;
 }
 
@@ -62,6 +65,9 @@ module _ {geo : Geometry} {given : Given} {lines : List Outcome} {old : SeenCour
   pub sized : length old.nodes.clients ≡ geo.clients
   sized = r.settled.sound.count ∙ clients_are r.system
 
+  pub in_system : (client : ℕ) → client ≤ length old.nodes.clients → client ≤ geo.clients
+  in_system client last = let many = sized in omega (arith, last, many)
+
   own_of : (client : ℕ) → client ≤ geo.clients → client ≤ old.ledger.clients
   own_of client high = omega (arith, high, sized, r.settled.well.clients)
 
@@ -73,6 +79,7 @@ module _ {geo : Geometry} {given : Given} {lines : List Outcome} {old : SeenCour
       record {
         report = record {
           system = with_call r.system new client (length lines) call own (set_same old.nodes new.nodes (client - 1) _ t.nodes.new_is) t.calls;
+          turns = call_in_order r.settled r.turns new client call (within_low geo.clients client own) t;
           settled = g.settled;
         };
         reads = g.reads;
@@ -81,13 +88,14 @@ module _ {geo : Geometry} {given : Given} {lines : List Outcome} {old : SeenCour
   pub finish_given : GivesMore r (with_finish given (length lines)) old
   finish_given =
       let g : GoesWith r.settled (with_finish given (length lines)) old = finish_begins r.settled in
-      record { report = record { system = with_end r.system (length lines); settled = g.settled }; reads = g.reads }
+      record { report = record { system = with_end r.system (length lines); turns = finish_in_order r.turns; settled = g.settled }; reads = g.reads }
 
-  pub flush_given : (new : SeenCourse) (client : ℕ) → 1 ≤ client → kind_at old.nodes (client - 1) ≡ Some kind.Idle → IsFinishing given lines → Finishes old new client → GivesMore r given new
-  flush_given new client low idle finishing f =
-      let g : GoesWith r.settled given new = commits_all r.settled new client low idle finishing f in
+  pub flush_given : (new : SeenCourse) (client : ℕ) → 1 ≤ client → client ≤ geo.clients → AllIdle old.nodes → IsFinishing given lines → Finishes old new client → GivesMore r given new
+  flush_given new client low high idle finishing f =
+      let seen = idle_seen old.nodes (client - 1) (let many = sized in omega (arith, low, high, many)) (idle (client - 1)) in
+      let g : GoesWith r.settled given new = commits_all r.settled new client low seen finishing f in
       record {
-        report = record { system = with_none r.system new (set_same old.nodes new.nodes (client - 1) _ f.nodes.new_is) f.calls; settled = g.settled };
+        report = record { system = with_none r.system new (set_same old.nodes new.nodes (client - 1) _ f.nodes.new_is) f.calls; turns = flush_in_order r.settled r.turns new client idle f; settled = g.settled };
         reads = g.reads;
       }
 
@@ -160,21 +168,21 @@ silent_text old new same = same ∙ sym (append-nil old.text)
 
 module _ {geo : Geometry} {given : Given} {lines : List Outcome} {old : SeenCourse} (r : HasReport geo given lines old) (new : SeenCourse) (client : ℕ) where
   -- it tells these lines
-  told_of : (more : List Outcome) (g : Goes r.settled new client more) → IsOfSystem geo given (lines ++ more) new → new.text ≡ old.text ++ report_text more → HasTold r new client
-  told_of more g system text = record {
+  told_of : (more : List Outcome) (g : Goes r.settled new client more) → IsOfSystem geo given (lines ++ more) new → ComesInTurn geo given (lines ++ more) new → new.text ≡ old.text ++ report_text more → HasTold r new client
+  told_of more g system turns text = record {
     place = g.place;
     client_is = g.client_is;
     more = more;
-    report = record { system = system; settled = g.settled };
+    report = record { system = system; turns = turns; settled = g.settled };
     tells = g.tells;
     others = g.others;
     text = text;
   }
 
   -- nothing
-  told_none : (g : Goes r.settled new client []) → SizesStay old.nodes new.nodes → new.calls ≡ old.calls → new.text ≡ old.text → HasTold r new client
-  told_none g same calls text =
-      told_of [] g (subst (λ (l : List Outcome). IsOfSystem geo given l new) (sym (append-nil lines)) (with_none r.system new same calls)) (silent_text old new text)
+  told_none : (g : Goes r.settled new client []) → SizesStay old.nodes new.nodes → ComesInTurn geo given (lines ++ []) new → new.calls ≡ old.calls → new.text ≡ old.text → HasTold r new client
+  told_none g same turns calls text =
+      told_of [] g (subst (λ (l : List Outcome). IsOfSystem geo given l new) (sym (append-nil lines)) (with_none r.system new same calls)) turns (silent_text old new text)
 
   module _ (own : IsTrue (within 1 geo.clients client)) where
     low : 1 ≤ client
@@ -191,10 +199,12 @@ module _ {geo : Geometry} {given : Given} {lines : List Outcome} {old : SeenCour
         (stepped_may new.nodes (client - 1) told r.settled.sound h))
 
     waited : HasWaited old new client → HasTold r new client
-    waited h = told_none (waited_so r.settled new client low h) (ready_sized old.nodes new.nodes (client - 1) h.nodes) h.calls h.text
+    waited h = told_none (waited_so r.settled new client low h) (ready_sized old.nodes new.nodes (client - 1) h.nodes)
+        (subst (λ (l : List Outcome). ComesInTurn geo given l new) (sym (append-nil lines)) (ready_in_order r.settled r.turns new (client - 1) h.nodes h.untold)) h.calls h.text
 
     moved : HasMoved old new client → HasTold r new client
-    moved m = told_none (moves_so r.settled new client low inside m) (step_sized old.nodes new.nodes (client - 1) m.told m.stepped) m.calls m.text
+    moved m = told_none (moves_so r.settled new client low inside m) (step_sized old.nodes new.nodes (client - 1) m.told m.stepped)
+        (subst (λ (more : List Outcome). ComesInTurn geo given (lines ++ more) new) m.silent (told_in_order r.settled r.turns new (client - 1) m.told m.stepped (m.untold ∙ r.settled.told))) m.calls m.text
 
     answered : HasAnswered old new client → HasTold r new client
     answered a =
@@ -202,6 +212,7 @@ module _ {geo : Geometry} {given : Given} {lines : List Outcome} {old : SeenCour
         told_of (lines_in a.told) g
         (with_told r.system new client (lines_in a.told) (step_sized old.nodes new.nodes (client - 1) a.told a.stepped) a.tells.calls r.settled.well.calls own
         (may_tell a.told a.stepped) a.tells.values g.settled.sound.told.fit)
+        (told_in_order r.settled r.turns new (client - 1) a.told a.stepped a.tells.told)
         a.tells.text
 
     pub step_told : (did : Step) → StepIs old new client did → HasTold r new client
@@ -214,7 +225,11 @@ module _ {geo : Geometry} {given : Given} {lines : List Outcome} {old : SeenCour
   wait_given low h =
       let g : GoesWith r.settled given new = waited_with r.settled new client low h in
       record {
-        report = record { system = with_none r.system new (ready_sized old.nodes new.nodes (client - 1) h.nodes) h.calls; settled = g.settled };
+        report = record {
+          system = with_none r.system new (ready_sized old.nodes new.nodes (client - 1) h.nodes) h.calls;
+          turns = ready_in_order r.settled r.turns new (client - 1) h.nodes h.untold;
+          settled = g.settled;
+        };
         reads = g.reads;
       }
 
@@ -223,12 +238,13 @@ module _ {geo : Geometry} {given : Given} {lines : List Outcome} {old : SeenCour
 pub none_waits : {geo : Geometry} {given : Given} {lines : List Outcome} {c : SeenCourse} → HasReport geo given lines c → IsReported geo given lines c
 none_waits {geo} {given} {lines} {c} r = record {
   system = r.system;
+  turns = r.turns;
   sound = subst (IsSoundWith given lines c) (sym r.settled.told) r.settled;
   waits = subst (MayWait geo.servers) (sym r.settled.told) tt;
 }
 
 pub settles_so : {geo : Geometry} {given : Given} {lines : List Outcome} {c : SeenCourse} → IsReported geo given lines c → c.untold ≡ None → HasReport geo given lines c
-settles_so {geo} {given} {lines} {c} r e = record { system = r.system; settled = subst (IsSoundWith given lines c) e r.sound }
+settles_so {geo} {given} {lines} {c} r e = record { system = r.system; turns = r.turns; settled = subst (IsSoundWith given lines c) e r.sound }
 
 pub halts_so : {geo : Geometry} {given : Given} {lines : List Outcome} {old : SeenCourse} (r : HasReport geo given lines old) (new : SeenCourse) (client : ℕ) (why : Halt)
     → IsTrue (within 1 geo.clients client) → HasHaltedStep old new client why → HasHalted geo given lines old new
@@ -239,6 +255,7 @@ halts_so {geo} {given} {lines} {old} r new client why own (inl h) = record {
 halts_so {geo} {given} {lines} {old} r new client why own (inr b) = record {
   report = record {
     system = with_none r.system new (step_sized old.nodes new.nodes (client - 1) b.0.told b.0.stepped) b.0.calls;
+    turns = waits_in_order r.settled r.turns new (client - 1) b.0.told b.0.stepped (record { client = client; lines = lines_in b.0.told }) refl b.0.untold;
     sound = behind_so r.settled new client (within_low geo.clients client own) (own_of r client (within_high geo.clients client own)) b.0;
     waits = subst (MayWait geo.servers) (sym b.0.untold) (may_tell r new client own b.0.told b.0.stepped);
   };
@@ -246,20 +263,23 @@ halts_so {geo} {given} {lines} {old} r new client why own (inr b) = record {
 }
 
 -- they are told
-module _ {geo : Geometry} {given : Given} {lines : List Outcome} {old : SeenCourse} (system : IsOfSystem geo given lines old) (new : SeenCourse) where
-  rest_of : (u : Option Untold) → IsSoundWith given lines old u → MayWait geo.servers u → TellsWaiting old new u → IsSettled given (lines ++ lines_behind u) new → TellsMore geo given lines old new
-  rest_of None s may same settled = record {
+module _ {geo : Geometry} {given : Given} {lines : List Outcome} {old : SeenCourse} (system : IsOfSystem geo given lines old) (turns : ComesInTurn geo given lines old) (new : SeenCourse) where
+  rest_of : (u : Option Untold) → old.untold ≡ u → IsSoundWith given lines old u → MayWait geo.servers u → TellsWaiting old new u → IsSettled given (lines ++ lines_behind u) new → TellsMore geo given lines old new
+  rest_of None none s may same settled = record {
     more = [];
     report = record {
       system = subst (λ (c : SeenCourse). IsOfSystem geo given (lines ++ []) c) (sym same) (subst (λ (l : List Outcome). IsOfSystem geo given l old) (sym (append-nil lines)) system);
+      turns = subst (λ (c : SeenCourse). ComesInTurn geo given (lines ++ []) c) (sym same) (subst (λ (l : List Outcome). ComesInTurn geo given l old) (sym (append-nil lines)) turns);
       settled = settled;
     };
     text = silent_text old new (ap (λ (c : SeenCourse). c.text) same);
   }
-  rest_of (Some untold) w may t settled = record {
+  rest_of (Some untold) some w may t settled = record {
     more = untold.lines;
     report = record {
       system = with_told system new untold.client untold.lines stays t.1.calls w.well.calls (within_both geo.clients untold.client low high) may t.1.values w.sound.told.fit;
+      turns = subst (λ (o : Option Untold). ComesInTurn geo given (lines ++ lines_behind o) new) some
+          (rest_in_order (λ turn. lines_in_turn given lines (lines_behind old.untold) w.fit turns.finished turn) turns new t.0 t.1.told);
       settled = settled;
     };
     text = t.1.text;
@@ -278,7 +298,7 @@ module _ {geo : Geometry} {given : Given} {lines : List Outcome} {old : SeenCour
     high = omega (arith, w.own, w.well.clients, w.sound.count, clients_are system)
 
 pub rest_so : {geo : Geometry} {given : Given} {lines : List Outcome} {old : SeenCourse} (new : SeenCourse) → IsReported geo given lines old → TellsRest old new → TellsMore geo given lines old new
-rest_so {geo} {given} {lines} {old} new r t = rest_of r.system new old.untold r.sound r.waits t (rest_told given lines old new r.sound t)
+rest_so {geo} {given} {lines} {old} new r t = rest_of r.system r.turns new old.untold refl r.sound r.waits t (rest_told given lines old new r.sound t)
 
 -- ---- text is handed over
 
@@ -314,10 +334,11 @@ module _ {geo : Geometry} {given : Given} {lines : List Outcome} (c : SeenCourse
   prints r = record {
     report = record {
       system = system_still r.system;
+      turns = still_in_order c r.turns;
       settled = record { sound = r.settled.sound; keeps = r.settled.keeps; well = well_still c r.settled.well; unfinished = r.settled.unfinished; told = r.settled.told };
     };
     reads = λ i. refl;
   }
 
   pub still_prints : IsReported geo given lines c → IsReported geo given lines (handed c)
-  still_prints r = record { system = system_still r.system; sound = with_still given lines c c.untold r.sound; waits = r.waits }
+  still_prints r = record { system = system_still r.system; turns = still_in_order c r.turns; sound = with_still given lines c c.untold r.sound; waits = r.waits }

@@ -39,7 +39,7 @@ pub fn reports_take_calls()
     ensures finish { (geo : Geometry) (given : Given) (lines : List Outcome) (c : SeenCourse) (r : HasReport geo given lines c)
         → GivesMore r (with_finish given (length lines)) c }
     ensures flush { (geo : Geometry) (given : Given) (lines : List Outcome) (old new : SeenCourse) (client : ℕ) (r : HasReport geo given lines old)
-        → 1 ≤ client → kind_at old.nodes (client - 1) ≡ Some Idle → IsFinishing given lines → Finishes old new client → GivesMore r given new }
+        → 1 ≤ client → client ≤ geo.clients → AllIdle old.nodes → IsFinishing given lines → Finishes old new client → GivesMore r given new }
 {}
 
 /// A step of a client tells lines of its own behind the report, or nothing; one that isn't made tells none. Where a step halts,

@@ -225,7 +225,7 @@ module _ (tape : Tape) (geo : Geometry) (place : Place) (p : Pending) (now : Tap
         cut = record {
           given = none_given;
           lines = [];
-          stand = record { gives = is_first.past.gives; fits = is_first.fit; valid = tt; space = tt };
+          stand = record { gives = is_first.past.gives; fits = is_first.fit; valid = tt; space = tt; ample = λ turn enough. tt };
           printed_until = no_lines;
         };
       }) puts

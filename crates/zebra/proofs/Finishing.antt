@@ -1,5 +1,5 @@
 -- What a finish leaves of a run: all lines are printed, or a front of them.
-use Rattle.std.proofs.Common.{◌≡◌, ◌⊎◌, ℕ, ◌+◌, true, false, not, Bool, List, [], ◌++◌, length, take, Result, Ok, Err, Option, Some, None, refl, sym, ap, subst, ◌∙◌, append_assoc, inl, inr}
+use Rattle.std.proofs.Common.{◌≡◌, ◌⊎◌, ℕ, ◌+◌, ◌-◌, ◌≤◌, true, false, not, Bool, List, [], ◌++◌, length, take, Result, Ok, Err, Option, Some, None, refl, sym, ap, subst, ◌∙◌, append_assoc, inl, inr}
 use Rattle.std.specs.Prelude.{MatchResult, OnErr, OnOk, ◌==◌, if◌then◌else◌}
 use Rattle.std.specs.List.{AllByRecursion}
 use Rattle.zb_types.specs.declared.geometry.Geometry.{Geometry}
@@ -10,7 +10,9 @@ use Rattle.zb_claims.specs.Points.{Subject, tree_at}
 use Rattle.zb_claims.specs.Runs.{end_line}
 use Rattle.zb_claims.specs.Script.{lines_in}
 use Rattle.zb_claims.specs.Text.{report_text, tree_text, IsOutcome}
-use Rattle.zb_headline.specs.Complete.{lacks_space_alone}
+use Rattle.zb_headline.specs.Complete.{is_replied, lacks_space_alone}
+use Rattle.zb_headline.specs.Need.{space_needed}
+use Rattle.zb_ample.specs.Turning.{AreInTurn}
 use Rattle.zb_given.specs.Ends.{HaveLastLines}
 use Rattle.zb_given.specs.Given.{FitGiven, Given, script_of, with_finish}
 use Rattle.zb_given.specs.Loops.{IsPast}
@@ -48,14 +50,15 @@ record Came (geo : Geometry) (given : Given) (lines : List Outcome) (old new : S
   pub fits : FitGiven given (lines ++ more)
   pub valid : AllByRecursion (IsOutcome geo) (lines ++ more)
   pub space : AllByRecursion (λ line. lacks_space_alone line ≡ true) (lines ++ more)
+  pub ample : AreInTurn given (lines ++ more) → space_needed geo (script_of given) ≤ geo.slots - 4 → AllByRecursion (λ line. is_replied line ≡ true) (lines ++ more)
   pub text : new.text ≡ old.text ++ report_text more
 
 module _ (geo : Geometry) (given : Given) (lines : List Outcome) (old new : SeenCourse) where
   abbrev came : TellsMore geo given lines old new → Came geo given lines old new
-  came t = record { more = t.more; fits = t.report.settled.sound.told.fit; valid = t.report.system.valid; space = t.report.system.space; text = t.text }
+  came t = record { more = t.more; fits = t.report.settled.sound.told.fit; valid = t.report.system.valid; space = t.report.system.space; ample = λ turn enough. (t.report.turns.ample turn enough).replied; text = t.text }
 
   came_until : TellsUntil geo given lines old new → Came geo given lines old new
-  came_until t = record { more = t.more; fits = fits_of new new.untold t.report.sound; valid = t.report.system.valid; space = t.report.system.space; text = t.text }
+  came_until t = record { more = t.more; fits = fits_of new new.untold t.report.sound; valid = t.report.system.valid; space = t.report.system.space; ample = λ turn enough. (t.report.turns.ample turn enough).replied; text = t.text }
 
   came_so : (result : Result Bool Halt) → OnOk result (TellsMore geo given lines old new) → OnErr result (TellsUntil geo given lines old new) → Came geo given lines old new
   came_so (Ok done) ok err = came ok
@@ -72,7 +75,7 @@ module _ (start : List ℕ) (geo : Geometry) (script : List Line) (old new : See
   past_then more fits = steps_past script Finishing b.lines more fits (finishes script b.given b.lines b.past)
 
   stand_then : (c : Came geo Finishing b.lines old new) → StandFor geo script Finishing (All c.more)
-  stand_then c = record { gives = (past_then c.more c.fits).gives; fits = c.fits; valid = c.valid; space = c.space }
+  stand_then c = record { gives = (past_then c.more c.fits).gives; fits = c.fits; valid = c.valid; space = c.space; ample = c.ample }
 
   text_is : (c : Came geo Finishing b.lines old new) → new.text ≡ report_text c.more
   text_is c = c.text ∙ ap (λ (x : List ℕ). x ++ report_text c.more) b.printed_all.none
@@ -144,7 +147,7 @@ module _ (start : Start) (p : Pending) (old new : SeenCourse) (before now : Tape
     limit = h.limit;
     given = f.given;
     lines = f.lines;
-    stand = record { gives = f.past.gives; fits = f.report.settled.sound.told.fit; valid = f.report.system.valid; space = f.report.system.space };
+    stand = record { gives = f.past.gives; fits = f.report.settled.sound.told.fit; valid = f.report.system.valid; space = f.report.system.space; ample = λ turn enough. (f.report.turns.ample turn enough).replied };
     begun = f.past.begun;
     printed = f.printed_all.text;
     ending = End;
@@ -172,7 +175,7 @@ pub final_cut : (start : List ℕ) (geo : Geometry) (script : List Line) (course
 final_cut start geo script course printed f = record {
   given = f.given;
   lines = f.lines;
-  stand = record { gives = f.past.gives; fits = f.report.settled.sound.told.fit; valid = f.report.system.valid; space = f.report.system.space };
+  stand = record { gives = f.past.gives; fits = f.report.settled.sound.told.fit; valid = f.report.system.valid; space = f.report.system.space; ample = λ turn enough. (f.report.turns.ample turn enough).replied };
   printed_until = f.printed_all.text;
 }
 
@@ -198,7 +201,7 @@ module _ (start : Start) (p : Pending) (old new : SeenCourse) (before now : Tape
 
 module _ (ending : Ending) (start : Start) (p : Pending) (course : SeenCourse) (now : Tape) (h : HasStopped ending start p course now) where
   stand_so : StandFor start.geo (lines_in h.rows) h.between.given h.between.lines
-  stand_so = record { gives = h.between.past.gives; fits = h.between.report.settled.sound.told.fit; valid = h.between.report.system.valid; space = h.between.report.system.space }
+  stand_so = record { gives = h.between.past.gives; fits = h.between.report.settled.sound.told.fit; valid = h.between.report.system.valid; space = h.between.report.system.space; ample = λ turn enough. (h.between.report.turns.ample turn enough).replied }
 
   -- its rows ended with a line that isn't run
   pub stopped_so : (last : Last) → IsLast ending (lines_in h.rows) h.between.lines last → HasEnded start last p now

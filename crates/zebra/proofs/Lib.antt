@@ -3,6 +3,7 @@ pub mod Printing
 pub mod NextRow
 pub mod Running
 pub mod Heading
+pub mod Ample
 pub mod Whole
 pub mod Finishing
 pub mod Stepping

@@ -71,7 +71,7 @@ at_call_still {geo} {given} {lines} {old} r new script plus client call at g = r
 
 module _ (start : List ℕ) (geo : Geometry) (script : List Line) (old : SeenCourse) where
   pub between_stands : (printed : List ℕ) → (b : IsBetween start geo script old printed) → StandFor geo script b.given b.lines
-  between_stands printed b = record { gives = b.past.gives; fits = b.report.settled.sound.told.fit; valid = b.report.system.valid; space = b.report.system.space }
+  between_stands printed b = record { gives = b.past.gives; fits = b.report.settled.sound.told.fit; valid = b.report.system.valid; space = b.report.system.space; ample = λ turn enough. (b.report.turns.ample turn enough).replied }
 
   -- it breaks off there
   pub cut_between : (halted : Halted) (printed : List ℕ) → IsBetween start geo script old printed → IsCutOff halted start geo script printed
@@ -117,7 +117,7 @@ module _ (start : List ℕ) (geo : Geometry) (script : List Line) (old : SeenCou
         record {
           given = b.given;
           lines = b.lines ++ t.more;
-          stand = record { gives = past.gives; fits = t.report.settled.sound.told.fit; valid = t.report.system.valid; space = t.report.system.space };
+          stand = record { gives = past.gives; fits = t.report.settled.sound.told.fit; valid = t.report.system.valid; space = t.report.system.space; ample = λ turn enough. (t.report.turns.ample turn enough).replied };
           printed_until = put;
         }
 
@@ -195,6 +195,6 @@ module _ (start : List ℕ) (geo : Geometry) (script : List Line) (plus : Bool) 
         record {
           given = b.given;
           lines = b.lines ++ t.more;
-          stand = record { gives = at.at.gives; fits = t.report.settled.sound.told.fit; valid = t.report.system.valid; space = t.report.system.space };
+          stand = record { gives = at.at.gives; fits = t.report.settled.sound.told.fit; valid = t.report.system.valid; space = t.report.system.space; ample = λ turn enough. (t.report.turns.ample turn enough).replied };
           printed_until = put;
         }

@@ -1,6 +1,6 @@
 -- The script and the report of a run as one.
-use Rattle.std.proofs.Common.{◌≡◌, ℕ, ◌+◌, ◌<◌, ◌≤◌, true, List, [], ◌∷◌, ◌++◌, length, Some, refl, sym, ap, ◌∙◌, inl, inr, arith}
-use Rattle.std.specs.Prelude.{◌≢◌}
+use Rattle.std.proofs.Common.{◌≡◌, ℕ, ◌+◌, ◌-◌, ◌<◌, ◌≤◌, true, true≢false, Bool, not, List, [], ◌∷◌, ◌++◌, length, Some, refl, sym, ap, ◌∙◌, inl, inr, arith}
+use Rattle.std.specs.Prelude.{◌≢◌, ◌==◌}
 use Rattle.std.specs.List.{AllByRecursion}
 use Rattle.std.proofs.lemmas.List.{length-append}
 use Rattle.zb_types.specs.declared.geometry.Geometry.{Geometry}
@@ -9,6 +9,7 @@ use Rattle.zb_claims.specs.Points.{is_begun, tree_at}
 use Rattle.zb_claims.specs.Text.{report_text, tree_text, max_script}
 use Rattle.zb_claims.specs.Script.{Row, row_text, lines_in, whole, Begins}
 use Rattle.zb_claims.specs.Runs.{TellsTree, EndsSo, Prints, script_fault}
+use Rattle.zb_headline.specs.Complete.{is_replied}
 use Rattle.zb_given.specs.Given.{Given}
 use Rattle.zb_given.proofs.RunLifting.{lifts_run}
 use Rattle.zebra.specs.declared.last.Last.{Last}
@@ -16,6 +17,7 @@ use Rattle.zebra.specs.Pending.{Pending}
 use Rattle.zebra.specs.Rows.{AreRows, NoRow}
 use Rattle.zebra.specs.Running.{Start, StandFor, front_of}
 use Rattle.zebra.specs.Ends.{IsEnd, RunsBuilt}
+use Rattle.zebra.proofs.Ample.{given_in_turn, given_needs, none_unfinished}
 
 -- the bytes of a script: what stands before its header, the header, these rows, and what follows
 pub record IsScript (start : Start) (rows : List Row) (bytes rest : List ℕ) : Type 0 where
@@ -77,6 +79,16 @@ stopped start rows lines bytes rest more tail p number begun script is no_more s
 
 -- The whole.
 
+-- a run in which each call is replied to doesn't end with the status of unfinished ones
+not_seven : (geo : Geometry) (rows : List Row) (lines : List Outcome) (bytes rest tail printed : List ℕ) (end status : ℕ) → AllByRecursion (λ line. is_replied line ≡ true) lines → EndsSo whole TellsTree bytes geo rows rest lines end tail
+    → Prints status printed end (report_text lines ++ tail) → status ≢ 7
+not_seven geo rows lines bytes rest tail printed end status replied ends (inr cut) e = omega (arith, cut.0, e)
+not_seven geo rows lines bytes rest tail printed end status replied (inl done) (inl is) e =
+    true≢false (sym (ap (λ (n : ℕ). not (n == 0)) (sym is.0 ∙ e)) ∙ sym done.1.unfinished ∙ none_unfinished lines replied)
+not_seven geo rows lines bytes rest tail printed end status replied (inr (inl stopped)) (inl is) e = omega (arith, stopped.0, is.0, e)
+not_seven geo rows lines bytes rest tail printed end status replied (inr (inr (inl fault))) (inl is) e = omega (arith, fault.0, is.0, e)
+not_seven geo rows lines bytes rest tail printed end status replied (inr (inr (inr starved))) (inl is) e = omega (arith, starved.0, is.0, e)
+
 pub whole_run : (start : Start) (rows : List Row) (given : Given) (lines : List Outcome) (bytes rest tail printed : List ℕ) (end status : ℕ) → StandFor start.geo (lines_in rows) given lines → IsScript start rows bytes rest → EndsSo whole TellsTree bytes start.geo rows rest lines end tail
     → Prints status printed end (report_text lines ++ tail) → RunsBuilt status bytes printed
 whole_run start rows given lines bytes rest tail printed end status stand script ends prints = record {
@@ -95,4 +107,8 @@ whole_run start rows given lines bytes rest tail printed end status stand script
   };
   built = script.rows_are.built;
   space = stand.space;
+  ample = λ none enough.
+      let needs = given_needs start.geo (lines_in rows) given lines stand.gives in
+      let replied = stand.ample (given_in_turn (lines_in rows) given lines stand.gives none) (omega (arith, enough, needs)) in
+      (replied, not_seven start.geo rows lines bytes rest tail printed end status replied ends prints);
 }

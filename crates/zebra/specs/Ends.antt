@@ -1,5 +1,5 @@
 -- How a run ends.
-use Rattle.std.specs.Prelude.{◌≡◌, ◌⊎◌, ℕ, ◌+◌, ◌≤◌, ◌==◌, Bool, true, false, not, List, [], ◌∷◌, ◌++◌, length, codes, String, IsTrue, Result, Ok, Err}
+use Rattle.std.specs.Prelude.{◌≡◌, ◌≢◌, ◌⊎◌, ℕ, ◌+◌, ◌-◌, ◌≤◌, ◌==◌, Bool, true, false, not, List, [], ◌∷◌, ◌++◌, length, codes, String, IsTrue, Result, Ok, Err}
 use Rattle.std.specs.String.{string_bytes}
 use Rattle.std.specs.Str.{bytes_eq}
 use Rattle.std.specs.List.{AllByRecursion, list_any}
@@ -11,7 +11,8 @@ use Rattle.zb_claims.specs.Points.{is_begun, tree_at}
 use Rattle.zb_claims.specs.Fits.{FitLines}
 use Rattle.zb_claims.specs.Script.{Row, lines_in, whole, Begins}
 use Rattle.zb_claims.specs.Runs.{TellsTree, Prints, RunsScript, RunsNone, all_ended, is_unfinished, last_line, end_line, script_fault, read_fault, out_of_memory}
-use Rattle.zb_headline.specs.Complete.{lacks_space_alone}
+use Rattle.zb_headline.specs.Complete.{is_beside, is_replied, lacks_space_alone}
+use Rattle.zb_headline.specs.Need.{space_needed}
 use Rattle.zb_given.specs.Given.{Given}
 use Rattle.zb_outside.specs.Streams.{Streams, Rose}
 use Rattle.zebra.specs.declared.ending.Halted.{Halted}
@@ -75,11 +76,15 @@ abbrev pub PutsFault : {E : Type 0} → Result Last E → ℕ → Tape → Tape 
 PutsFault (Ok last) status before after = PutsLast last.text.items last.status status before after
 PutsFault (Err e) status before after = PutsHalted Memory status before after
 
--- a run of calls and clients' steps alone: each line of its report is a reply, says that a call is kept, or that space is wanting
+-- a run of calls and clients' steps alone: each line of its report is a reply, says that a call is kept, or that space is wanting;
+-- and where one call comes after the other, with no step line, and there is ample space, each is a reply or says that a call is
+-- buffered, and no call is unfinished
 pub record RunsBuilt (status : ℕ) (bytes printed : List ℕ) : Type 0 where
   pub run : RunsScript whole TellsTree status bytes printed
   pub built : AllByRecursion (λ row. IsTrue (is_built_row row)) run.rows
   pub space : AllByRecursion (λ line. lacks_space_alone line ≡ true) run.all
+  pub ample : list_any is_beside (lines_in run.rows) ≡ false → space_needed run.geo (lines_in run.rows) ≤ run.geo.slots - 4
+      → AllByRecursion (λ line. is_replied line ≡ true) run.all × (status ≢ 7)
 
 -- the line behind these rows isn't built, the rows were run, and the last line tells its number
 pub record StopsAtLine (status : ℕ) (bytes printed : List ℕ) : Type 0 where

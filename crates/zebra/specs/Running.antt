@@ -1,5 +1,5 @@
 -- A run on its way: the rows that it read of the script, and the lines that it printed.
-use Rattle.std.specs.Prelude.{◌≡◌, ◌⊎◌, ℕ, Bool, ◌+◌, ◌≤◌, true, List, [], ◌∷◌, ◌++◌, length, Option, Some, None}
+use Rattle.std.specs.Prelude.{◌≡◌, ◌⊎◌, ℕ, Bool, ◌+◌, ◌-◌, ◌≤◌, true, List, [], ◌∷◌, ◌++◌, length, Option, Some, None}
 use Rattle.std.specs.List.{flat_map, AllByRecursion}
 use Rattle.zb_types.specs.declared.calls.Call.{Call}
 use Rattle.zb_types.specs.declared.geometry.Geometry.{Geometry}
@@ -7,10 +7,12 @@ use Rattle.zb_types.specs.declared.lines.Line.{Line}
 use Rattle.zb_types.specs.declared.lines.Outcome.{Outcome}
 use Rattle.zb_claims.specs.Text.{header_text, max_script, IsOutcome}
 use Rattle.zb_claims.specs.Script.{Row, lines_in, rows_text, ended_line}
-use Rattle.zb_headline.specs.Complete.{lacks_space_alone}
-use Rattle.zb_given.specs.Given.{FitGiven, Given}
+use Rattle.zb_headline.specs.Complete.{is_replied, lacks_space_alone}
+use Rattle.zb_headline.specs.Need.{space_needed}
+use Rattle.zb_given.specs.Given.{FitGiven, Given, script_of}
 use Rattle.zb_given.specs.Gives.{Gives}
 use Rattle.zb_given.specs.Loops.{IsPast}
+use Rattle.zb_ample.specs.Turning.{AreInTurn}
 use Rattle.zb_script.specs.Places.{Place}
 use Rattle.zb_course.specs.Seen.{SeenCourse}
 use Rattle.zb_running.specs.Lines.{IsAtCall}
@@ -41,12 +43,14 @@ pub record IsCalling (start : List ℕ) (geo : Geometry) (script : List Line) (p
   pub at : IsAtCall script plus client call report
   pub printed_all : IsPrinted start lines course printed
 
--- the lines fit what was given of a script, each may stand in a report, and by none is more wanting than space
+-- the lines fit what was given of a script, each may stand in a report, and by none is more wanting than space; and not even
+-- that, where all was given in turn and there is ample space
 pub record StandFor (geo : Geometry) (script : List Line) (given : Given) (lines : List Outcome) : Type 0 where
   pub gives : Gives script given lines
   pub fits : FitGiven given lines
   pub valid : AllByRecursion (IsOutcome geo) lines
   pub space : AllByRecursion (λ line. lacks_space_alone line ≡ true) lines
+  pub ample : AreInTurn given lines → space_needed geo (script_of given) ≤ geo.slots - 4 → AllByRecursion (λ line. is_replied line ≡ true) lines
 
 -- a run broke off behind these lines of a script
 pub record IsCutOff (halted : Halted) (start : List ℕ) (geo : Geometry) (script : List Line) (printed : List ℕ) : Type 0 where

@@ -8,4 +8,4 @@ pub returns-clause-finish : goal.returns-clause-finish
 returns-clause-finish c geo given lines course r = finish_given r
 
 pub returns-clause-flush : goal.returns-clause-flush
-returns-clause-flush c geo given lines old new client r low idle finishing f = flush_given r new client low idle finishing f
+returns-clause-flush c geo given lines old new client r low high idle finishing f = flush_given r new client low high idle finishing f

@@ -61,7 +61,8 @@ loads geo calls = sum_by (load geo) calls
 abbrev pub numbered_loads : Geometry → List Numbered → ℕ
 numbered_loads geo calls = sum_by (λ k. load geo k.call) calls
 
--- A client's log has at most the updates that were given to the client and aren't ahead, each once.
+-- So many bytes fill half of what a client's log has come to, and they are at most what the client's updates weigh without those
+-- that are ahead.
 pub record IsPaid (geo : Geometry) (given : Given) (c : SeenClient) : Type 0 where
   pub bytes : ℕ
   pub half : HalfFull c.log.room (reached c) bytes

@@ -46,7 +46,8 @@ pub record InTurn (geo : Geometry) (given : Given) (n : SeenNodes) : Type 0 wher
   pub logs : LogsAreFilled geo given n
   pub servers : ServersAreFilled geo n
 
--- each call was given, and each finish began, where each call before it had its line
+-- each call was given where each call before it had its line, and each finish began where all calls that are given have theirs:
+-- so none is given behind a finish
 abbrev pub AreInTurn : Given → List Outcome → Type 0
 AreInTurn given lines = IsInTurn given lines × AllByRecursion (λ at. all_told (take at lines) (script_of given) ≡ true) given.finishes
 

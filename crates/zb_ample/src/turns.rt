@@ -36,7 +36,7 @@ pub fn clients_come_in_turn()
 {}
 
 /// Where clients are in turn, and the updates that were given need no more space than there is, the next step leaves them in
-/// turn, and each line that it tells is a reply, or says that a call is buffered: no batch is refused, and no slot is wanting.
+/// turn, and each final line that it tells is a reply: no batch is given up for want of a slot, and none is behind a version.
 pub fn clients_in_turn_have_space()
     ensures { (geo : System) (given : Given) (lines : List Outcome) (old new : SeenNodes) (i : ℕ) (told : Told)
         → AreSound given lines old → MayRise old.manager.tables → space_needed geo (script_of given) ≤ geo.slots - 4

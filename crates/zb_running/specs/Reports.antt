@@ -27,7 +27,7 @@ pub record IsOfSystem (geo : Geometry) (given : Given) (lines : List Outcome) (c
   pub valid : AllByRecursion (IsOutcome geo) lines
   pub space : AllByRecursion (λ line. lacks_space_alone line ≡ true) lines
 
--- Each line so far, and each that waits, is a reply or says that a call is buffered; and clients have work one after the other.
+-- Each final line so far, and each that waits, is a reply; and clients have work one after the other.
 pub record IsAmple (geo : Geometry) (given : Given) (lines : List Outcome) (c : SeenCourse) : Type 0 where
   pub replied : AllByRecursion (λ line. is_replied line ≡ true) lines
   pub waiting : AllByRecursion (λ line. is_replied line ≡ true) (lines_behind c.untold)

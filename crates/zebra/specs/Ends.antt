@@ -77,8 +77,8 @@ PutsFault (Ok last) status before after = PutsLast last.text.items last.status s
 PutsFault (Err e) status before after = PutsHalted Memory status before after
 
 -- a run of calls and clients' steps alone: each line of its report is a reply, says that a call is kept, or that space is wanting;
--- and where one call comes after the other, with no step line, and there is ample space, each is a reply or says that a call is
--- buffered, and no call is unfinished
+-- and where one call comes after the other, with no step line, and there is ample space, each final line is a reply, and no call
+-- is unfinished
 pub record RunsBuilt (status : ℕ) (bytes printed : List ℕ) : Type 0 where
   pub run : RunsScript whole TellsTree status bytes printed
   pub built : AllByRecursion (λ row. IsTrue (is_built_row row)) run.rows
